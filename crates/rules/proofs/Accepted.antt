@@ -1,0 +1,77 @@
+-- What acceptance tells of a wall: every field lies in its range. One law serves all fields, since the ranges stand in a table.
+use mathlib.Core.Path.{_≡_, sym, subst}
+use mathlib.Core.Bool.{Bool, true, false, _&&_, _||_, cond}
+use mathlib.Core.List.{List, [], _∷_}
+use Prim.Native.Nat.{ℕ, zero, suc, _+_, _-_, _≤_, _<_}
+use native.Mathlib.Omega.{arith}
+use lib.Dec.{T, leb, eqb, leb→le, eqb→eq}
+use lib.ListN.{length, getD}
+use Rattle.rules.specs.JobFile.{Wall, Range, between, aBar, bars, among, within, wallHeight, waterHeight, field, ranges, firstOutside, firstBadField, wallFits}
+
+-- ---- tests
+
+pub both : (a b : Bool) → T (a && b) → T a × T b
+both true b t = (tt, t)
+both false b t = absurd t
+
+pub either : {P : Type 0} (a b : Bool) → T (a || b) → (T a → P) → (T b → P) → P
+either true b t f g = f tt
+either false b t f g = g t
+
+abbrev pub every : (ℕ → Bool) → List ℕ → Bool
+every p [] = true
+every p (m ∷ ms) = p m && every p ms
+
+-- what each of some numbers has, a number among them has
+pub among-has : (p : ℕ → Bool) (n : ℕ) (ms : List ℕ) → T (every p ms) → T (among n ms) → T (p n)
+unfolding among
+among-has p n [] all t = absurd t
+among-has p n (m ∷ ms) all t =
+    let h = both (p m) (every p ms) all in
+    either (eqb n m) (among n ms) t (λ e. subst (λ (k : ℕ). T (p k)) (sym (eqb→eq n m e)) (h .0)) (among-has p n ms (h .1))
+
+-- ---- every field of an accepted wall
+
+passed : (b : Bool) (rest number : ℕ) → cond b rest (suc number) ≡ 0 → T b × (rest ≡ 0)
+passed true rest number e = (tt, e)
+passed false rest number e = absurd (omega arith)
+
+-- where none from a number on is outside its range, each is within
+inside : (wall : Wall) (number : ℕ) (rs : List Range) → firstOutside wall (suc number) rs ≡ 0
+    → (i : ℕ) → i < length rs → T (within wall (getD rs i aBar) (getD wall (number + i) 0))
+unfolding firstOutside
+inside wall number [] e i h = absurd (omega arith)
+inside wall number (r ∷ rs) e zero h =
+    let k : suc number - 1 ≡ number + 0 = omega arith in
+    rw k at (passed (within wall r (field wall (suc number))) _ number e .0)
+inside wall number (r ∷ rs) e (suc i) h =
+    let k : suc number + i ≡ number + suc i = omega arith in
+    rw k at (inside wall (suc number) rs (passed (within wall r (field wall (suc number))) _ number e .1) i (omega arith))
+
+-- the field at an index, which is its number less 1
+pub field-within : (wall : Wall) → T (wallFits wall) → (i : ℕ) → i < length ranges → T (within wall (getD ranges i aBar) (getD wall i 0))
+unfolding wallFits firstBadField
+field-within wall fits i h =
+    let k : 0 + i ≡ i = omega arith in rw k at (inside wall 0 ranges (eqb→eq (firstBadField wall) 0 fits) i h)
+
+-- a field with two bounds, which the table of ranges gives
+pub field-between : (wall : Wall) → T (wallFits wall) → (i low high : ℕ) → i < length ranges → getD ranges i aBar ≡ between low high
+    → (low ≤ getD wall i 0) × (getD wall i 0 ≤ high)
+unfolding within
+field-between wall fits i low high h e =
+    let t : T (leb low (getD wall i 0) && leb (getD wall i 0) high) = rw e at (field-within wall fits i h) in
+    let k = both (leb low (getD wall i 0)) (leb (getD wall i 0) high) t in
+    (leb→le low (getD wall i 0) (k .0), leb→le (getD wall i 0) high (k .1))
+
+-- a bar has one of the diameters, and so at most 40
+pub field-bar : (wall : Wall) → T (wallFits wall) → (i : ℕ) → i < length ranges → getD ranges i aBar ≡ aBar → T (among (getD wall i 0) bars)
+unfolding within
+field-bar wall fits i h e = rw e at (field-within wall fits i h)
+
+pub bar-most : (bar : ℕ) → T (among bar bars) → bar ≤ 40
+bar-most bar t = leb→le bar 40 (among-has (λ n. leb n 40) bar bars tt t)
+
+-- the water stands no higher than the wall
+pub water-below : (wall : Wall) → T (wallFits wall) → waterHeight wall ≤ wallHeight wall
+unfolding within
+water-below wall fits = leb→le (waterHeight wall) (wallHeight wall) (field-within wall fits 8 (omega arith))

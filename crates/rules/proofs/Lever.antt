@@ -1,0 +1,106 @@
+-- Document 01, "Toe and stem", of the lever arm: it passes the three tests, no greater number does, and wherever compression steel isn't needed there is one.
+use mathlib.Core.Path.{_≡_, refl, subst}
+use mathlib.Core.Logic.{⊎-elim}
+use mathlib.Core.Bool.{Bool, true, false, not, _&&_}
+use Prim.Native.Nat.{ℕ, zero, suc, _+_, _-_, _*_, _/_, _≤_, _<_}
+use native.Mathlib.Nat.{eq-or-lt-of-le, mul-le-mul-left}
+use native.Mathlib.Omega.{arith}
+use borrow.Author.Tests.{le-leb}
+use lib.Dec.{T, leb, leb→le, nltb→le, lit<}
+use Rattle.rules.specs.declared.Section.{Section}
+use Rattle.rules.specs.JobFile.{Wall, wallFits, stemThickness, baseThickness, toeCover, toeBar, stemCover, stemBar}
+use Rattle.rules.specs.Forces.{squared}
+use Rattle.rules.specs.ToeAndStem.{toeSection, stemSection, twiceDepth, needsCompression, bears, greatest, leverArm}
+use Rattle.rules.proofs.Accepted.{both, field-between, field-bar, bar-most}
+
+-- the three tests of a lever arm, as document 01 has them
+pub record Bears (M fcu D Z : ℕ) : Type 0 where
+  pub high : 20 * Z ≤ 19 * D
+  pub low : D ≤ 2 * Z
+  pub strong : M ≤ 225 * fcu * Z * (D - Z)
+
+tested : (M fcu D Z : ℕ) → T (bears M fcu D Z) → Bears M fcu D Z
+unfolding bears
+tested M fcu D Z t =
+    let h = both (leb (20 * Z) (19 * D) && leb D (2 * Z)) (leb M (225 * fcu * Z * (D - Z))) t in
+    let k = both (leb (20 * Z) (19 * D)) (leb D (2 * Z)) (h .0) in
+    record { high = leb→le (20 * Z) (19 * D) (k .0); low = leb→le D (2 * Z) (k .1); strong = leb→le M (225 * fcu * Z * (D - Z)) (h .1) }
+
+passes : (M fcu D Z : ℕ) → Bears M fcu D Z → T (bears M fcu D Z)
+unfolding bears
+passes M fcu D Z b = rw (le-leb _ _ (b .high), le-leb _ _ (b .low), le-leb _ _ (b .strong)) tt
+
+-- ---- the greatest number that passes a test
+
+module _ (p : ℕ → Bool) where
+  -- where one up to n passes, the greatest passes, and is no less
+  found : (n k : ℕ) → k ≤ n → T (p k) → T (p (greatest p n)) × (k ≤ greatest p n)
+  unfolding greatest
+  found zero k h t = let e : k ≡ 0 = omega arith in (subst (λ (m : ℕ). T (p m)) e t, h)
+  found (suc n) k h t = go (p (suc n)) refl (found n k)
+    where
+      go : (b : Bool) → p (suc n) ≡ b → (k ≤ n → T (p k) → T (p (greatest p n)) × (k ≤ greatest p n))
+          → T (p (elim b [ true ↦ suc n | false ↦ greatest p n ])) × (k ≤ elim b [ true ↦ suc n | false ↦ greatest p n ])
+      go true e earlier = (rw e tt, h)
+      go false e earlier =
+          ⊎-elim (λ (s : k ≡ suc n). absurd (rw e at (subst (λ (m : ℕ). T (p m)) s t))) (λ (l : k < suc n). earlier (omega arith) t) (eq-or-lt-of-le h)
+
+-- ---- the lever arm
+
+-- where some number keeps the three tests, the lever arm does, and is no less
+pub lever-keeps : (M fcu D Z : ℕ) → Bears M fcu D Z → Bears M fcu D (leverArm M fcu D)
+unfolding leverArm
+lever-keeps M fcu D Z b = tested M fcu D _ (found (bears M fcu D) D Z (omega (arith, b .high)) (passes M fcu D Z b) .0)
+
+pub lever-greatest : (M fcu D Z : ℕ) → Bears M fcu D Z → Z ≤ leverArm M fcu D
+unfolding leverArm
+lever-greatest M fcu D Z b = found (bears M fcu D) D Z (omega (arith, b .high)) (passes M fcu D Z b) .1
+
+-- half of D keeps them, if M is within what the concrete bears alone: 39 (x + y)^2 is at most 225 x y for the two halves x and y
+halves : (x y : ℕ) → 1 ≤ y → y ≤ x → x ≤ y + 1 → 39 * ((x + y) * (x + y)) ≤ 225 * (x * y)
+halves x y h k l =
+    ⊎-elim (λ (e : y ≡ x). rw (← e) (omega arith)) (λ (s : y < x). let e : x ≡ y + 1 = omega arith in rw e (omega arith)) (eq-or-lt-of-le k)
+
+half-bears : (M fcu D : ℕ) → 2 ≤ D → M ≤ 39 * fcu * squared D → Bears M fcu D (D - D / 2)
+half-bears M fcu D h k =
+    record { high = omega arith; low = omega arith; strong = strong (D - D / 2) (D / 2) (omega arith) (omega arith) (omega arith) (omega arith) (omega arith) }
+  where
+    strong : (x y : ℕ) → D ≡ x + y → D - x ≡ y → 1 ≤ y → y ≤ x → x ≤ y + 1 → M ≤ 225 * fcu * x * (D - x)
+    strong x y e d a b c = rw d (omega (arith, mul-le-mul-left fcu (halves x y a b c), rw e at k))
+
+pub lever-exists : (M fcu D : ℕ) → 2 ≤ D → M ≤ 39 * fcu * squared D → Bears M fcu D (leverArm M fcu D)
+lever-exists M fcu D h k = lever-keeps M fcu D (D - D / 2) (half-bears M fcu D h k)
+
+-- ---- the sections of an accepted wall
+
+deep : (thickness cover bar : ℕ) → 200 ≤ thickness → cover ≤ 75 → bar ≤ 40 → 210 ≤ 2 * thickness - 2 * cover - bar
+deep thickness cover bar h k l = omega arith
+
+-- D is at least 210
+pub toe-depth : (wall : Wall) → T (wallFits wall) → 210 ≤ twiceDepth (toeSection wall)
+unfolding twiceDepth toeSection
+toe-depth wall fits =
+    deep (baseThickness wall) (toeCover wall) (toeBar wall) (field-between wall fits 5 200 1500 (lit< tt) refl .0)
+    (field-between wall fits 23 20 75 (lit< tt) refl .1) (bar-most (toeBar wall) (field-bar wall fits 24 (lit< tt) refl))
+
+pub stem-depth : (wall : Wall) → T (wallFits wall) → 210 ≤ twiceDepth (stemSection wall)
+unfolding twiceDepth stemSection
+stem-depth wall fits =
+    deep (stemThickness wall) (stemCover wall) (stemBar wall) (field-between wall fits 2 200 1500 (lit< tt) refl .0)
+    (field-between wall fits 26 20 75 (lit< tt) refl .1) (bar-most (stemBar wall) (field-bar wall fits 27 (lit< tt) refl))
+
+-- unless a moment needs compression steel, the section's lever arm keeps the three tests
+abbrev pub HasLever : Section → Type 0
+HasLever s =
+    (M : ℕ) → T (not (needsCompression M (s .concrete) (twiceDepth s)))
+    → Bears M (s .concrete) (twiceDepth s) (leverArm M (s .concrete) (twiceDepth s))
+
+deep-lever : (s : Section) → 210 ≤ twiceDepth s → HasLever s
+unfolding needsCompression
+deep-lever s h M t = lever-exists M (s .concrete) (twiceDepth s) (omega arith) (nltb→le (39 * s .concrete * squared (twiceDepth s)) M t)
+
+pub toe-lever : (wall : Wall) → T (wallFits wall) → HasLever (toeSection wall)
+toe-lever wall fits = deep-lever (toeSection wall) (toe-depth wall fits)
+
+pub stem-lever : (wall : Wall) → T (wallFits wall) → HasLever (stemSection wall)
+stem-lever wall fits = deep-lever (stemSection wall) (stem-depth wall fits)

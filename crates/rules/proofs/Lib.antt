@@ -1,0 +1,4 @@
+pub mod Accepted
+pub mod Lever
+pub mod Points
+pub mod Roundings

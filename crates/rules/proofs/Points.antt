@@ -1,0 +1,100 @@
+-- Document 01, "Figures to hold it to": P1 to P10, each worked by the definitions and put beside the figure that is wanted.
+use Prim.Native.Nat.{ℕ, _/_, _%_}
+use mathlib.Core.Path.{_≡_, refl}
+use mathlib.Core.Bool.{Bool, true, false}
+use mathlib.Core.List.{List, [], _∷_, _++_}
+use lib.IntN.{pos}
+use lib.ListN.{length, set}
+use Rattle.whole.specs.Rounding.{roundedUp, roundedDown, roundedNearest}
+use Rattle.whole.specs.Sum.{sumOf}
+use Rattle.rules.specs.declared.Block.{Block}
+use Rattle.rules.specs.declared.Fraction.{Fraction}
+use Rattle.rules.specs.declared.Kind.{Kind}
+use Rattle.rules.specs.declared.Kind.the-variants.{Full, FromToe, NoBlock}
+use Rattle.rules.specs.JobFile.{Wall, activeCoefficient, waterHeight, u16At, u32At, u32sAt, edition, wallCount, firstWallOffset, loadCount, firstLoadOffset, wholeLength, entriesAt, wallAt, recordsFrom, walls, entries, loadsOn, baseLength, wallHeight, among, within, firstOutside, firstBadField, wallFits}
+use Rattle.rules.specs.Answered.{countsFit, offsetsAndLengthFit, firstBadWall, firstBadLoad, firstRefusal}
+use Rattle.rules.specs.Forces.{saturatedHeight, stemWeight, baseWeight, saturatedWeight, moistWeight, surchargeWeight, surchargePush, moistPush, moistPushBelow, saturatedPush, waterPush, weightRows, pushRows, loadTable, table, columnSum, totals, service, factored, passiveDepth, passive, lastingWeight, friction, isPropped, slides, proppingForce}
+use Rattle.rules.specs.Bearing.{serviceScale, isFull, isFromToe, isFromHeel, kindOf, ofKind, blockOf, reported, peak, given, blockUnder, serviceBlock, factoredBlock}
+use Rattle.rules.specs.ToeAndStem.{scaled, pressureBy, pressureAt, twiceArm, toeWorked, shearOfBearing, shearOfWeight, momentOfBearing, momentOfWeight, toeShear, toeMoment, stemLoadTable, stemTable, stemShear, stemMoment, toeSection, stemSection, twiceDepth, needsCompression, bears, greatest, leverArm, neededArea, leastArea, besides, barArea, providedArea, requiredArea, steelFails, shearFails, toeArea, stemArea, toeSteelFails, stemSteelFails, toeShearFails, stemShearFails}
+use Rattle.rules.specs.SheetLine.{ascii, fails, failuresAmong, failures, line, linesFrom, sheet, joined, digits, decimal, signedDecimal, twoHexDigits, lineRest, lineText, printed}
+
+-- what the definitions give, and what document 01 wants
+pub record Point : Type 1 where
+  pub Figure : Type 0
+  pub worked : Figure
+  pub wanted : Figure
+
+abbrev pub point : (A : Type 0) → A → A → Point
+point A worked wanted = record { Figure = A; worked = worked; wanted = wanted }
+
+-- ---- case A, in bytes
+
+abbrev pub u16s : List ℕ → List ℕ
+u16s [] = []
+u16s (n ∷ rest) = n % 256 ∷ n / 256 ∷ u16s rest
+
+abbrev pub u32s : List ℕ → List ℕ
+u32s [] = []
+u32s (n ∷ rest) = n % 256 ∷ n / 256 % 256 ∷ n / 65536 % 256 ∷ n / 16777216 ∷ u32s rest
+
+unfoldable pub caseA : List ℕ
+caseA =
+    u16s (1 ∷ 1 ∷ 12 ∷ 0 ∷ 136 ∷ 136 ∷ [])
+    ++ u32s
+    (0 ∷ 3000 ∷ 300 ∷ 500 ∷ 1500 ∷ 300 ∷ 0 ∷ 0 ∷ 0 ∷ 2400 ∷ 2400 ∷ 1800 ∷ 2000 ∷ 1800 ∷ 333 ∷ 500 ∷ 3000 ∷ 500 ∷ 150 ∷ 1000 ∷ 35 ∷ 500 ∷ 13
+    ∷ 40 ∷ 12 ∷ 200 ∷ 40 ∷ 16 ∷ 150 ∷ 550 ∷ 550 ∷ [])
+
+unfoldable pub wallA : Wall
+unfolding caseA
+wallA = wallAt caseA 0
+
+-- wall A with 400 mm of unplanned excavation, which is field 8
+unfoldable pub excavatedA : Wall
+unfolding wallA
+excavatedA = set wallA 7 400
+
+-- ---- a block of R 600 on a base of 3000: its kind, and the pressures reported of it
+
+pub record Pressed : Type 0 where
+  pub shape : Kind
+  pub toe : ℕ
+  pub heel : ℕ
+
+unfoldable pub blockAt : ℕ → Block
+blockAt M6 = given serviceScale (blockOf (pos 600) (pos M6) (pos 3000))
+
+unfoldable pub pressed : ℕ → Pressed
+unfolding blockAt
+pressed M6 =
+    let b = blockAt M6 in record { shape = b .kind; toe = reported serviceScale (b .toe); heel = reported serviceScale (b .heel) }
+
+-- ---- the points
+
+abbrev pub points : List Point
+points =
+    point ℕ (length caseA) 136  -- P1
+    ∷ point (List ℕ) (printed caseA) (ascii "1 00 134160 43627 0 767102100 88312 28349 173078 0 71688 30840740 390 80700 92700000 892\n")
+    ∷ point ℕ (leverArm 232500000 35 585) 529  -- P2
+    ∷ point ℕ (neededArea 232500000 500 (leverArm 232500000 35 585)) 2021
+    ∷ point ℕ (providedArea 25 175) 2804  -- P3
+    ∷ point ℕ (providedArea 12 200) 565
+    ∷ point ℕ (passive excavatedA) 0  -- P4
+    ∷ point Pressed (pressed 3600000) (record { shape = Full; toe = 400; heel = 0 })  -- P5
+    ∷ point Pressed (pressed 3599999) (record { shape = FromToe; toe = 401; heel = 0 })  -- P6
+    ∷ point Fraction (blockAt 3599999 .contact) (record { over = pos 3599999; under = pos 1200 })
+    ∷ point Pressed (pressed 7200000) (record { shape = Full; toe = 0; heel = 400 })  -- P7
+    ∷ point Pressed (pressed 0) (record { shape = NoBlock; toe = 0; heel = 0 })  -- P8
+    ∷ point ℕ (leverArm 352257360 35 508) 394  -- P9
+    ∷ point Bool (needsCompression 352257360 35 508) false
+    ∷ point Bool (needsCompression 352257361 35 508) true
+    ∷ point ℕ (moistPush wallA (activeCoefficient wallA) (wallHeight wallA) (waterHeight wallA)) 32638  -- P10
+    ∷ []
+
+-- each point is as wanted
+abbrev pub Hold : List Point → Type 0
+Hold [] = Unit
+Hold (p ∷ rest) = (p .worked ≡ p .wanted) × Hold rest
+
+pub points-hold : Hold points
+unfolding excavatedA pressed u16At u32At u32sAt edition wallCount firstWallOffset loadCount firstLoadOffset wholeLength entriesAt wallAt recordsFrom walls entries loadsOn baseLength wallHeight among within firstOutside firstBadField wallFits countsFit offsetsAndLengthFit firstBadWall firstBadLoad firstRefusal saturatedHeight stemWeight baseWeight saturatedWeight moistWeight surchargeWeight surchargePush moistPush moistPushBelow saturatedPush waterPush weightRows pushRows loadTable table columnSum totals service factored passiveDepth passive lastingWeight friction isPropped slides proppingForce isFull isFromToe isFromHeel kindOf ofKind blockOf reported peak given blockUnder serviceBlock factoredBlock scaled pressureBy pressureAt twiceArm toeWorked shearOfBearing shearOfWeight momentOfBearing momentOfWeight toeShear toeMoment stemLoadTable stemTable stemShear stemMoment toeSection stemSection twiceDepth needsCompression bears greatest leverArm neededArea leastArea besides barArea providedArea requiredArea steelFails shearFails toeArea stemArea toeSteelFails stemSteelFails toeShearFails stemShearFails fails failuresAmong failures line linesFrom sheet joined digits decimal signedDecimal twoHexDigits lineRest lineText printed roundedUp roundedDown roundedNearest sumOf
+points-hold = (refl, (refl, (refl, (refl, (refl, (refl, (refl, (refl, (refl, (refl, (refl, (refl, (refl, (refl, (refl, (refl, tt))))))))))))))))

@@ -1,0 +1,99 @@
+-- Document 01, "What is answered": each answer's number and place, and the first refusal of a job file in the order of the tests.
+use Prim.Native.Nat.{ℕ, suc, _+_, _-_, _*_}
+use mathlib.Core.Bool.{Bool, not, _&&_, cond}
+use mathlib.Core.List.{List, [], _∷_, _++_}
+use lib.Dec.{leb, ltb, eqb}
+use lib.ListN.{length, getD}
+use Rattle.rules.specs.declared.Answer.{Answer}
+use Rattle.rules.specs.declared.Answer.the-variants.{Worked, TooShort, WrongEdition, CountOutOfRange, WrongOffsetOrLength, WallOutOfRange, LoadOutOfRange, NinthLoad, BufferTooShort, NoSuchWall}
+use Rattle.rules.specs.JobFile.{File, Wall, Entry, headerBytes, edition, wallCount, firstWallOffset, loadCount, firstLoadOffset, wholeLength, entryBytes, mostWalls, mostLoads, mostLoadsOnWall, entriesAt, walls, entries, wallFits, wallOf, loadOf, loadFits, loadsOn}
+
+-- a refusal's number; 0 says that the job is worked
+abbrev pub number : Answer → ℕ
+number Worked = 0
+number TooShort = 1
+number WrongEdition = 2
+number CountOutOfRange = 3
+number WrongOffsetOrLength = 4
+number (WallOutOfRange wall) = 5
+number (LoadOutOfRange load) = 6
+number (NinthLoad load) = 7
+number BufferTooShort = 8
+number (NoSuchWall wall) = 18
+
+-- its place
+abbrev pub place : Answer → ℕ
+place Worked = 0
+place TooShort = 0
+place WrongEdition = 0
+place CountOutOfRange = 0
+place WrongOffsetOrLength = 0
+place (WallOutOfRange wall) = wall
+place (LoadOutOfRange load) = load
+place (NinthLoad load) = load
+place BufferTooShort = 0
+place (NoSuchWall wall) = wall
+
+abbrev pub isWorked : Answer → Bool
+isWorked answer = eqb (number answer) 0
+
+-- a refusal, where the test says so
+abbrev pub refusedIf : Bool → Answer → Answer
+refusedIf test refusal = cond test refusal Worked
+
+-- the first of two refusals
+infixr 20 _orElse_
+abbrev pub _orElse_ : Answer → Answer → Answer
+first orElse second = cond (isWorked first) second first
+
+-- ---- 3: the counts; 4: the offsets and the length that they give
+
+unfoldable pub countsFit : File → Bool
+countsFit file = leb 1 (wallCount file) && leb (wallCount file) mostWalls && leb (loadCount file) mostLoads
+
+unfoldable pub offsetsAndLengthFit : File → Bool
+offsetsAndLengthFit file =
+    eqb (firstWallOffset file) headerBytes
+    && eqb (firstLoadOffset file) (entriesAt file)
+    && eqb (wholeLength file) (entriesAt file + entryBytes * loadCount file)
+    && eqb (wholeLength file) (length file)
+
+-- ---- 5: walls in file order, the first of them with a number
+
+unfoldable pub firstBadWall : ℕ → List Wall → Answer
+firstBadWall number [] = Worked
+firstBadWall number (wall ∷ rest) = refusedIf (not (wallFits wall)) (WallOutOfRange number) orElse firstBadWall (suc number) rest
+
+-- ---- 6 and 7: loads in file order, the first of them with a number, behind those that were passed
+
+abbrev pub isThere : ℕ → List Wall → Bool
+isThere number there = leb 1 number && leb number (length there)
+
+-- the wall with a number, from 1
+abbrev pub numbered : ℕ → List Wall → Wall
+numbered number there = getD there (number - 1) []
+
+unfoldable pub entryFits : List Wall → Entry → Bool
+entryFits there entry = isThere (wallOf entry) there && loadFits (numbered (wallOf entry) there) (loadOf entry)
+
+-- as many as a wall may have were passed already
+unfoldable pub isOneMore : List Entry → Entry → Bool
+isOneMore passed entry = leb mostLoadsOnWall (length (loadsOn (wallOf entry) passed))
+
+unfoldable pub firstBadLoad : List Wall → List Entry → ℕ → List Entry → Answer
+firstBadLoad there passed number [] = Worked
+firstBadLoad there passed number (entry ∷ rest) =
+    refusedIf (not (entryFits there entry)) (LoadOutOfRange number)
+    orElse refusedIf (isOneMore passed entry) (NinthLoad number)
+    orElse firstBadLoad there (passed ++ entry ∷ []) (suc number) rest
+
+-- ---- 1 to 7, in order
+
+unfoldable pub firstRefusal : File → Answer
+firstRefusal file =
+    refusedIf (ltb (length file) headerBytes) TooShort
+    orElse refusedIf (not (eqb (edition file) 1)) WrongEdition
+    orElse refusedIf (not (countsFit file)) CountOutOfRange
+    orElse refusedIf (not (offsetsAndLengthFit file)) WrongOffsetOrLength
+    orElse firstBadWall 1 (walls file)
+    orElse firstBadLoad (walls file) [] 1 (entries file)

@@ -1,0 +1,158 @@
+-- Document 01, "The bearing block": straight-line blocks and what they carry, the one that R, M6 and l make, and the pressures that are reported.
+-- Pressures are in kN/m2 and, of a factored block, in tenths of a kN/m2. Blocks are compared multiplied out.
+use Prim.Native.Nat.{ℕ, _*_, max}
+use mathlib.Core.Path.{_≡_}
+use mathlib.Core.Bool.{Bool, true, false, _&&_, cond}
+use mathlib.Core.List.{List}
+use lib.Dec.{leb}
+use lib.IntN.{ℤ, pos, _+ℤ_, _-ℤ_, _*ℤ_}
+use lib.Signed.{leZ, ltZ, _≤ℤ_, _<ℤ_}
+use Rattle.whole.specs.Parts.{aboveZero}
+use Rattle.whole.specs.Rounding.{roundedUp}
+use Rattle.rules.specs.declared.Totals.{Totals}
+use Rattle.rules.specs.declared.Fraction.{Fraction}
+use Rattle.rules.specs.declared.Kind.{Kind}
+use Rattle.rules.specs.declared.Kind.the-variants.{Full, FromToe, FromHeel, NoBlock}
+use Rattle.rules.specs.declared.Block.{Block}
+use Rattle.rules.specs.JobFile.{Wall, Load, baseLength}
+use Rattle.rules.specs.Forces.{service, factored}
+
+-- ---- fractions
+
+-- it binds weaker than sums and products
+infix 5 _over_
+abbrev pub _over_ : ℤ → ℤ → Fraction
+a over b = record { over = a; under = b }
+
+-- over 1
+abbrev pub whole : ℤ → Fraction
+whole a = a over pos 1
+
+abbrev pub plus : Fraction → Fraction → Fraction
+plus a b = a .over *ℤ b .under +ℤ b .over *ℤ a .under over a .under *ℤ b .under
+
+abbrev pub minus : Fraction → Fraction → Fraction
+minus a b = a .over *ℤ b .under -ℤ b .over *ℤ a .under over a .under *ℤ b .under
+
+abbrev pub times : Fraction → Fraction → Fraction
+times a b = a .over *ℤ b .over over a .under *ℤ b .under
+
+-- equal, multiplied out
+abbrev pub Same : Fraction → Fraction → Type 0
+Same a b = a .over *ℤ b .under ≡ b .over *ℤ a .under
+
+-- ---- any straight-line block, on a base of length l
+
+-- its figures are over whole numbers above 0
+pub record Proper (b : Block) : Type 0 where
+  pub toe : pos 0 <ℤ b .toe .under
+  pub heel : pos 0 <ℤ b .heel .under
+  pub contact : pos 0 <ℤ b .contact .under
+
+-- over all of l, with neither end below 0
+pub record FullBlock (l : ℤ) (b : Block) : Type 0 where
+  pub toe : pos 0 ≤ℤ b .toe .over
+  pub heel : pos 0 ≤ℤ b .heel .over
+  pub contact : Same (b .contact) (whole l)
+
+-- a triangle from one end, which falls to 0 at a contact above 0 and less than l
+pub record Triangle (l : ℤ) (near far contact : Fraction) : Type 0 where
+  pub peak : pos 0 <ℤ near .over
+  pub falls : Same far (whole (pos 0))
+  pub some : pos 0 <ℤ contact .over
+  pub short : contact .over <ℤ (l *ℤ contact .under)
+
+-- what it takes to be of a kind; no straight-line block is of none
+abbrev pub HasKind : Kind → ℤ → Block → Type 0
+HasKind Full l b = FullBlock l b
+HasKind FromToe l b = Triangle l (b .toe) (b .heel) (b .contact)
+HasKind FromHeel l b = Triangle l (b .heel) (b .toe) (b .contact)
+HasKind NoBlock l b = ⊥
+
+pub record StraightLine (l : ℤ) (b : Block) : Type 0 where
+  pub proper : Proper b
+  pub shaped : HasKind (b .kind) l b
+
+-- what it carries: (t + g) x c / 2
+abbrev pub carried : Block → Fraction
+carried b = times (times (plus (b .toe) (b .heel)) (b .contact)) (pos 1 over pos 2)
+
+-- six times its moment about the toe
+abbrev pub sixMoments : Kind → ℤ → Block → Fraction
+sixMoments Full l b = times (plus (b .toe) (times (whole (pos 2)) (b .heel))) (whole (l *ℤ l))
+sixMoments FromToe l b = times (b .toe) (times (b .contact) (b .contact))
+sixMoments FromHeel l b = times (times (b .heel) (b .contact)) (minus (whole (pos 3 *ℤ l)) (b .contact))
+sixMoments NoBlock l b = whole (pos 0)
+
+-- the same kind, with equal fractions
+pub record SameBlock (a b : Block) : Type 0 where
+  pub kind : a .kind ≡ b .kind
+  pub toe : Same (a .toe) (b .toe)
+  pub heel : Same (a .heel) (b .heel)
+  pub contact : Same (a .contact) (b .contact)
+
+-- ---- the block that R and M6 make on a base of length l
+
+unfoldable pub isFull : ℤ → ℤ → ℤ → Bool
+isFull R M6 l = leZ (pos 2 *ℤ R *ℤ l) M6 && leZ M6 (pos 4 *ℤ R *ℤ l)
+
+unfoldable pub isFromToe : ℤ → ℤ → ℤ → Bool
+isFromToe R M6 l = ltZ (pos 0) M6 && ltZ M6 (pos 2 *ℤ R *ℤ l)
+
+unfoldable pub isFromHeel : ℤ → ℤ → ℤ → Bool
+isFromHeel R M6 l = ltZ (pos 4 *ℤ R *ℤ l) M6
+
+unfoldable pub kindOf : ℤ → ℤ → ℤ → Kind
+kindOf R M6 l = cond (isFull R M6 l) Full (cond (isFromToe R M6 l) FromToe (cond (isFromHeel R M6 l) FromHeel NoBlock))
+
+unfoldable pub ofKind : Kind → ℤ → ℤ → ℤ → Block
+ofKind Full R M6 l =
+    record { kind = Full; toe = pos 4 *ℤ R *ℤ l -ℤ M6 over l *ℤ l; heel = M6 -ℤ pos 2 *ℤ R *ℤ l over l *ℤ l; contact = whole l }
+ofKind FromToe R M6 l =
+    record { kind = FromToe; toe = pos 4 *ℤ R *ℤ R over M6; heel = whole (pos 0); contact = M6 over pos 2 *ℤ R }
+ofKind FromHeel R M6 l =
+    let N = pos 6 *ℤ R *ℤ l -ℤ M6 in
+    record { kind = FromHeel; toe = whole (pos 0); heel = pos 4 *ℤ R *ℤ R over N; contact = N over pos 2 *ℤ R }
+ofKind NoBlock R M6 l = record { kind = NoBlock; toe = whole (pos 0); heel = whole (pos 0); contact = whole (pos 0) }
+
+unfoldable pub blockOf : ℤ → ℤ → ℤ → Block
+blockOf R M6 l = ofKind (kindOf R M6 l) R M6 l
+
+-- ---- the reported pressures
+
+-- N/m2 in a kN/m2, and in a tenth of one
+abbrev pub serviceScale : ℕ
+serviceScale = 1000
+
+abbrev pub factoredScale : ℕ
+factoredScale = 100
+
+-- a pressure in N/m2, rounded up
+unfoldable pub reported : ℕ → Fraction → ℕ
+reported scale pressure = roundedUp (scale * aboveZero (pressure .over)) (aboveZero (pressure .under))
+
+unfoldable pub peak : ℕ → Block → ℕ
+peak scale b = max (reported scale (b .toe)) (reported scale (b .heel))
+
+-- a block whose reported peak exceeds 2000000 N/m2 isn't given
+unfoldable pub given : ℕ → Block → Block
+given scale b = cond (leb (peak scale b) 2000000) b (ofKind NoBlock (pos 0) (pos 0) (pos 0))
+
+unfoldable pub blockUnder : ℕ → Totals → Wall → Block
+blockUnder scale t wall = given scale (blockOf (t .vertical) (t .moment) (pos (baseLength wall)))
+
+unfoldable pub serviceBlock : Wall → List Load → Block
+serviceBlock wall loads = blockUnder serviceScale (service wall loads) wall
+
+unfoldable pub factoredBlock : Wall → List Load → Block
+factoredBlock wall loads = blockUnder factoredScale (factored wall loads) wall
+
+-- is there a block?
+abbrev pub isGivenKind : Kind → Bool
+isGivenKind Full = true
+isGivenKind FromToe = true
+isGivenKind FromHeel = true
+isGivenKind NoBlock = false
+
+abbrev pub isGiven : Block → Bool
+isGiven b = isGivenKind (b .kind)

@@ -1,0 +1,73 @@
+-- Document 01, "The bearing block", its last paragraph: the service block for the drawing office, from a job file and a wall's number.
+-- Each figure is one IEEE division of two whole numbers.
+use Prim.Native.Nat.{ℕ}
+use mathlib.Core.Path.{_≡_}
+use mathlib.Core.Bool.{not, cond}
+use lib.IntN.{ℤ, pos, _*ℤ_}
+use lib.Ieee.{Float, binary64, ofInt, div}
+use Rattle.rules.specs.declared.Answer.{Answer}
+use Rattle.rules.specs.declared.Answer.the-variants.{NoSuchWall}
+use Rattle.rules.specs.declared.Block.{Block}
+use Rattle.rules.specs.declared.Drawing.{Drawing}
+use Rattle.rules.specs.declared.Drawn.{Drawn}
+use Rattle.rules.specs.declared.Fraction.{Fraction}
+use Rattle.rules.specs.declared.Kind.{Kind}
+use Rattle.rules.specs.declared.Kind.the-variants.{Full, FromToe, FromHeel, NoBlock}
+use Rattle.rules.specs.declared.Shape.{Shape}
+use Rattle.rules.specs.declared.Shape.the-variants.{Whole, ToeTriangle, HeelTriangle, Nothing}
+use Rattle.rules.specs.declared.Totals.{Totals}
+use Rattle.rules.specs.JobFile.{File, walls, entries, loadsOn}
+use Rattle.rules.specs.Answered.{isWorked, refusedIf, _orElse_, isThere, numbered, firstRefusal}
+use Rattle.rules.specs.Forces.{service}
+use Rattle.rules.specs.Bearing.{serviceScale, reported, serviceBlock}
+
+unfoldable pub quotient : ℤ → ℤ → Float
+quotient a b = div binary64 (ofInt binary64 a) (ofInt binary64 b)
+
+-- newtons as kN, and N/m2 as kN/m2
+abbrev pub inThousands : ℤ → Float
+inThousands a = quotient a (pos 1000)
+
+abbrev pub inKilo : Fraction → Float
+inKilo pressure = inThousands (pos (reported serviceScale pressure))
+
+unfoldable pub drawingOf : Totals → Drawing
+drawingOf t =
+    record {
+      vertical = inThousands (t .vertical);
+      horizontal = inThousands (t .horizontal);
+      distance = quotient (t .moment) (pos 6 *ℤ t .vertical);
+    }
+
+-- the length in contact is a triangle's M6 or N by 2R
+unfoldable pub shapeBy : Kind → Block → Shape
+shapeBy Full b = Whole (inKilo (b .toe)) (inKilo (b .heel))
+shapeBy FromToe b = ToeTriangle (inKilo (b .toe)) (quotient (b .contact .over) (b .contact .under))
+shapeBy FromHeel b = HeelTriangle (inKilo (b .heel)) (quotient (b .contact .over) (b .contact .under))
+shapeBy NoBlock b = Nothing
+
+unfoldable pub shapeOf : Block → Shape
+shapeOf b = shapeBy (b .kind) b
+
+-- ---- what is answered: 1 to 7, and then 18
+
+unfoldable pub answerToDrawing : File → ℕ → Answer
+answerToDrawing file number = firstRefusal file orElse refusedIf (not (isThere number (walls file))) (NoSuchWall number)
+
+unfoldable pub drawn : File → ℕ → Drawn
+drawn file number =
+    let wall = numbered number (walls file) in
+    let its = loadsOn number (entries file) in
+    record { answer = answerToDrawing file number; drawing = drawingOf (service wall its); shape = shapeOf (serviceBlock wall its) }
+
+-- a refusal gives every figure 0, and the shape nothing
+unfoldable pub undrawn : Answer → Drawn
+undrawn answer =
+    let none = ofInt binary64 (pos 0) in
+    record { answer = answer; drawing = record { vertical = none; horizontal = none; distance = none }; shape = Nothing }
+
+unfoldable pub drawingFor : File → ℕ → Drawn
+drawingFor file number = cond (isWorked (answerToDrawing file number)) (drawn file number) (undrawn (answerToDrawing file number))
+
+pub record Draws (file : File) (number : ℕ) (answer : Drawn) : Type 0 where
+  pub answered : answer ≡ drawingFor file number

@@ -1,0 +1,160 @@
+-- Document 01, "The sheet line": the checks and their bits, a wall's sixteen numbers, the result buffer after a call, and the printed text.
+use Prim.Native.Nat.{ℕ, zero, suc, _+_, _-_, _*_, _/_, _%_}
+use Prim.Native.Char.{code}
+use Prim.Native.String.{String, [] as empty, _∷_ as _then_}
+use mathlib.Core.Path.{_≡_}
+use mathlib.Core.Bool.{Bool, true, false, not, _||_, cond}
+use mathlib.Core.List.{List, [], _∷_, _++_, map}
+use lib.Dec.{T, ltb}
+use lib.ListN.{length, getD, drop}
+use lib.IntN.{ℤ, pos, negsuc}
+use lib.Signed.{ltZ}
+use Rattle.whole.specs.Parts.{aboveZero}
+use Rattle.rules.specs.declared.Answer.{Answer}
+use Rattle.rules.specs.declared.Answer.the-variants.{BufferTooShort}
+use Rattle.rules.specs.JobFile.{File, Wall, Load, Entry, wallCount, allowableBearing, walls, entries, loadsOn}
+use Rattle.rules.specs.Answered.{number, place, isWorked, refusedIf, _orElse_, firstRefusal}
+use Rattle.rules.specs.Forces.{service, slides, proppingForce}
+use Rattle.rules.specs.Bearing.{serviceScale, factoredScale, reported, peak, serviceBlock, factoredBlock, isGiven}
+use Rattle.rules.specs.ToeAndStem.{toeShear, toeMoment, toeArea, stemShear, stemMoment, stemArea, toeSteelFails, stemSteelFails, toeShearFails, stemShearFails}
+
+-- ---- the checks
+
+pub data Check : Type 0 where
+  sliding overturning bearing serviceBearing factoredBearing toeSteel stemSteel shear : Check
+
+-- the test of each: does a wall fail it? The allowable pressure is in kN/m2, each of 1000 N/m2.
+unfoldable pub fails : Check → Wall → List Load → Bool
+fails sliding wall loads = slides wall loads
+fails overturning wall loads = ltZ (service wall loads .restoring) (service wall loads .overturning)
+fails bearing wall loads = ltb (1000 * allowableBearing wall) (peak serviceScale (serviceBlock wall loads))
+fails serviceBearing wall loads = not (isGiven (serviceBlock wall loads))
+fails factoredBearing wall loads = not (isGiven (factoredBlock wall loads))
+fails toeSteel wall loads = toeSteelFails wall loads
+fails stemSteel wall loads = stemSteelFails wall loads
+fails shear wall loads = toeShearFails wall loads || stemShearFails wall loads
+
+-- the fact that a wall fails one
+abbrev pub Failure : Check → Wall → List Load → Type 0
+Failure check wall loads = T (fails check wall loads)
+
+abbrev pub bit : Check → ℕ
+bit sliding = 1
+bit overturning = 2
+bit bearing = 4
+bit serviceBearing = 8
+bit factoredBearing = 16
+bit toeSteel = 32
+bit stemSteel = 64
+bit shear = 128
+
+abbrev pub checks : List Check
+checks = sliding ∷ overturning ∷ bearing ∷ serviceBearing ∷ factoredBearing ∷ toeSteel ∷ stemSteel ∷ shear ∷ []
+
+-- the bits of the checks that fail, in one byte
+unfoldable pub failuresAmong : List Check → Wall → List Load → ℕ
+failuresAmong [] wall loads = 0
+failuresAmong (check ∷ rest) wall loads = cond (fails check wall loads) (bit check) 0 + failuresAmong rest wall loads
+
+unfoldable pub failures : Wall → List Load → ℕ
+failures wall loads = failuresAmong checks wall loads
+
+-- ---- the line of a wall with a number
+
+abbrev pub lineNumbers : ℕ
+lineNumbers = 16
+
+unfoldable pub line : ℕ → Wall → List Load → List ℤ
+line number wall loads =
+    pos number
+    ∷ pos (failures wall loads)
+    ∷ service wall loads .vertical
+    ∷ service wall loads .horizontal
+    ∷ pos (proppingForce wall loads)
+    ∷ service wall loads .moment
+    ∷ pos (reported serviceScale (serviceBlock wall loads .toe))
+    ∷ pos (reported serviceScale (serviceBlock wall loads .heel))
+    ∷ pos (reported factoredScale (factoredBlock wall loads .toe))
+    ∷ pos (reported factoredScale (factoredBlock wall loads .heel))
+    ∷ pos (toeShear wall loads)
+    ∷ pos (toeMoment wall loads)
+    ∷ pos (toeArea wall loads)
+    ∷ pos (stemShear wall loads)
+    ∷ pos (stemMoment wall loads)
+    ∷ pos (stemArea wall loads)
+    ∷ []
+
+-- the lines of walls, the first of them with a number, each with its own loads of the file
+unfoldable pub linesFrom : ℕ → List Wall → List Entry → List (List ℤ)
+linesFrom number [] there = []
+linesFrom number (wall ∷ rest) there = line number wall (loadsOn number there) ∷ linesFrom (suc number) rest there
+
+unfoldable pub sheet : File → List (List ℤ)
+sheet file = linesFrom 1 (walls file) (entries file)
+
+-- ---- the result buffer, by document 01's "What is answered"
+
+unfoldable pub joined : {A : Type 0} → List (List A) → List A
+joined [] = []
+joined (list ∷ rest) = list ++ joined rest
+
+-- 1 to 7, and 8 last, where room for so many numbers is lent
+unfoldable pub answerTo : File → ℕ → Answer
+answerTo file room = firstRefusal file orElse refusedIf (ltb room (lineNumbers * wallCount file)) BufferTooShort
+
+-- every line, and beyond them what stood there; of a refused job all that stood there
+unfoldable pub bufferAfter : File → List ℤ → List ℤ
+bufferAfter file before =
+    cond (isWorked (answerTo file (length before))) (joined (sheet file) ++ drop (lineNumbers * wallCount file) before) before
+
+pub record Calculates (file : File) (before : List ℤ) (answer : Answer) (after : List ℤ) : Type 0 where
+  pub answered : answer ≡ answerTo file (length before)
+  pub holds : after ≡ bufferAfter file before
+
+-- ---- the printed text, as bytes
+
+abbrev pub ascii : String → List ℕ
+ascii empty = []
+ascii (character then text) = code character ∷ ascii text
+
+-- 0 to 9
+abbrev pub digit : ℕ → ℕ
+digit n = code "0" + n
+
+-- 0 to 9 and a to f
+abbrev pub hexDigit : ℕ → ℕ
+hexDigit n = cond (ltb n 10) (digit n) (code "a" + (n - 10))
+
+-- n in decimal, where it has at most so many digits
+unfoldable pub digits : ℕ → ℕ → List ℕ
+digits zero n = []
+digits (suc most) n = elim (ltb n 10) [ true ↦ digit n ∷ [] | false ↦ digits most (n / 10) ++ digit (n % 10) ∷ [] ]
+
+-- n never has more digits than n + 1
+unfoldable pub decimal : ℕ → List ℕ
+decimal n = digits (suc n) n
+
+unfoldable pub signedDecimal : ℤ → List ℕ
+signedDecimal (pos n) = decimal n
+signedDecimal (negsuc n) = code "-" ∷ decimal (suc n)
+
+unfoldable pub twoHexDigits : ℕ → List ℕ
+twoHexDigits n = hexDigit (n / 16 % 16) ∷ hexDigit (n % 16) ∷ []
+
+-- numbers, a space before each, and the end of the line
+unfoldable pub lineRest : List ℤ → List ℕ
+lineRest [] = code "\n" ∷ []
+lineRest (z ∷ zs) = code " " ∷ signedDecimal z ++ lineRest zs
+
+-- a line's numbers; the second of them, the failures, is printed in hex
+unfoldable pub lineText : List ℤ → List ℕ
+lineText numbers =
+    signedDecimal (getD numbers 0 (pos 0))
+    ++ code " " ∷ twoHexDigits (aboveZero (getD numbers 1 (pos 0)))
+    ++ lineRest (drop 2 numbers)
+
+unfoldable pub refusalText : Answer → List ℕ
+refusalText answer = ascii "refused" ++ lineRest (pos (number answer) ∷ pos (place answer) ∷ [])
+
+unfoldable pub printed : File → List ℕ
+printed file = cond (isWorked (firstRefusal file)) (joined (map lineText (sheet file))) (refusalText (firstRefusal file))

@@ -1,0 +1,212 @@
+-- Document 01, "Toe and stem": what bends and shears the toe and the stem, and the steel and shear rules, which are one for every section.
+-- Shears are in N and moments in N mm, on a metre's run; pressures in N/m2; areas in mm2.
+use Prim.Native.Nat.{ℕ, zero, suc, _+_, _-_, _*_, max}
+use mathlib.Core.Bool.{Bool, true, false, not, _&&_, _||_, cond}
+use mathlib.Core.List.{List, [], _∷_, _++_}
+use lib.Dec.{leb, ltb, eqb}
+use lib.IntN.{pos, _+ℤ_, _-ℤ_, _*ℤ_}
+use Rattle.whole.specs.Parts.{aboveZero}
+use Rattle.whole.specs.Rounding.{roundedUp, roundedDown}
+use Rattle.rules.specs.declared.Fraction.{Fraction}
+use Rattle.rules.specs.declared.Kind.{Kind}
+use Rattle.rules.specs.declared.Kind.the-variants.{Full, FromToe, FromHeel, NoBlock}
+use Rattle.rules.specs.declared.Block.{Block}
+use Rattle.rules.specs.declared.Section.{Section}
+use Rattle.rules.specs.JobFile.{Wall, Load, stemHeight, stemThickness, toeLength, baseThickness, baseDensity, restCoefficient, concreteStrength, steelStrength, leastSteel, toeCover, toeBar, toeSpacing, stemCover, stemBar, stemSpacing, toeStress, stemStress, baseLength, bars, isDown, position, deadLoad, liveLoad}
+use Rattle.rules.specs.Forces.{perVolume, squared, saturatedHeight, Component, deadPush, livePush, across, pushRows, tenths, totals}
+use Rattle.rules.specs.Bearing.{factoredScale, reported, factoredBlock, isGiven}
+
+-- ---- the factored pressure at a point, rounded up. Distances are given twice, so that half a millimetre is exact.
+
+-- a reported peak scaled by the distance into contact from its zero end, at a point so far from its other end; 0 outside
+unfoldable pub scaled : ℕ → Fraction → ℕ → ℕ
+scaled peak contact twiceAway =
+    roundedUp (peak * aboveZero (pos 2 *ℤ contact .over -ℤ contact .under *ℤ pos twiceAway)) (aboveZero (pos 2 *ℤ contact .over))
+
+-- the straight line between a full block's ends, both of which are over l^2
+unfoldable pub onLine : Block → ℕ → ℕ → ℕ
+onLine b l twice =
+    roundedUp (factoredScale * aboveZero (b .toe .over *ℤ pos (2 * l - twice) +ℤ b .heel .over *ℤ pos twice))
+    (2 * l * aboveZero (b .toe .under))
+
+unfoldable pub pressureBy : Kind → Block → ℕ → ℕ → ℕ
+pressureBy Full b l twice = onLine b l twice
+pressureBy FromToe b l twice = scaled (reported factoredScale (b .toe)) (b .contact) twice
+pressureBy FromHeel b l twice = scaled (reported factoredScale (b .heel)) (b .contact) (2 * l - twice)
+pressureBy NoBlock b l twice = 0
+
+-- at a point of the base, so far from the toe
+unfoldable pub pressureAt : Wall → List Load → ℕ → ℕ
+pressureAt wall loads twice = let b = factoredBlock wall loads in pressureBy (b .kind) b (baseLength wall) twice
+
+-- ---- the toe
+
+-- 2a: twice the distance of the stem's middle from the toe
+unfoldable pub twiceArm : Wall → ℕ
+twiceArm wall = 2 * toeLength wall + stemThickness wall
+
+-- a toe to work, and a factored block under it
+unfoldable pub toeWorked : Wall → List Load → Bool
+toeWorked wall loads = ltb 0 (toeLength wall) && isGiven (factoredBlock wall loads)
+
+-- mm x (N/m2) on a metre's run: 1000 to the newton
+abbrev pub perPressure : ℕ
+perPressure = 1000
+
+-- (p at 0 + p at lt) x lt / 2, rounded up
+unfoldable pub shearOfBearing : Wall → List Load → ℕ
+shearOfBearing wall loads =
+    roundedUp ((pressureAt wall loads 0 + pressureAt wall loads (2 * toeLength wall)) * toeLength wall) (2 * perPressure)
+
+-- 1.4 x base density x tb x lt, rounded down; 1.4 is 14 tenths
+unfoldable pub shearOfWeight : Wall → ℕ
+shearOfWeight wall = roundedDown (14 * baseDensity wall * baseThickness wall * toeLength wall) (10 * perVolume)
+
+-- (2 x p at 0 + p at a) x a^2 / 6, rounded up; a^2 is a quarter of (2a)^2
+unfoldable pub momentOfBearing : Wall → List Load → ℕ
+momentOfBearing wall loads =
+    roundedUp ((2 * pressureAt wall loads 0 + pressureAt wall loads (twiceArm wall)) * squared (twiceArm wall)) (4 * 6 * perPressure)
+
+-- 1.4 x base density x tb x a^2 / 2, rounded down
+unfoldable pub momentOfWeight : Wall → ℕ
+momentOfWeight wall = roundedDown (14 * baseDensity wall * baseThickness wall * squared (twiceArm wall)) (4 * 2 * 10 * perVolume)
+
+-- a negative difference counts as 0, which is what a difference of whole numbers is here
+unfoldable pub toeShear : Wall → List Load → ℕ
+toeShear wall loads = cond (toeWorked wall loads) (shearOfBearing wall loads - shearOfWeight wall) 0
+
+unfoldable pub toeMoment : Wall → List Load → ℕ
+toeMoment wall loads = cond (toeWorked wall loads) (momentOfBearing wall loads - momentOfWeight wall) 0
+
+-- ---- the stem, on the base's top
+
+-- a horizontal load at or above the base's top; others don't reach the stem
+unfoldable pub stemLoadRows : Wall → Load → List Component
+stemLoadRows wall load =
+    cond (isDown load || ltb (position load) (baseThickness wall))
+    []
+    (across deadPush (deadLoad load) (6 * (position load - baseThickness wall))
+    ∷ across livePush (liveLoad load) (6 * (position load - baseThickness wall))
+    ∷ [])
+
+unfoldable pub stemLoadTable : Wall → List Load → List Component
+stemLoadTable wall [] = []
+stemLoadTable wall (load ∷ rest) = stemLoadRows wall load ++ stemLoadTable wall rest
+
+unfoldable pub stemTable : Wall → List Load → List Component
+stemTable wall loads = pushRows wall (restCoefficient wall) (stemHeight wall) (saturatedHeight wall) ++ stemLoadTable wall loads
+
+-- from tenths of a N
+unfoldable pub stemShear : Wall → List Load → ℕ
+stemShear wall loads = roundedUp (aboveZero (totals tenths (stemTable wall loads) .horizontal)) 10
+
+-- from tenths of a sixth of a N mm
+unfoldable pub stemMoment : Wall → List Load → ℕ
+stemMoment wall loads = roundedUp (aboveZero (totals tenths (stemTable wall loads) .overturning)) (6 * 10)
+
+-- ---- steel, BS 8110: one rule for every section
+
+-- a section has its own thickness, bars and shear stress, and the wall's materials
+abbrev pub sectionOf : Wall → ℕ → ℕ → ℕ → ℕ → ℕ → Section
+sectionOf wall thickness cover bar spacing stress =
+    record {
+      thickness = thickness;
+      cover = cover;
+      bar = bar;
+      spacing = spacing;
+      stress = stress;
+      concrete = concreteStrength wall;
+      steel = steelStrength wall;
+      least = leastSteel wall;
+    }
+
+unfoldable pub toeSection : Wall → Section
+toeSection wall = sectionOf wall (baseThickness wall) (toeCover wall) (toeBar wall) (toeSpacing wall) (toeStress wall)
+
+unfoldable pub stemSection : Wall → Section
+stemSection wall = sectionOf wall (stemThickness wall) (stemCover wall) (stemBar wall) (stemSpacing wall) (stemStress wall)
+
+-- D: twice the depth
+unfoldable pub twiceDepth : Section → ℕ
+twiceDepth s = 2 * s .thickness - 2 * s .cover - s .bar
+
+-- M is more than the section bears without compression steel
+unfoldable pub needsCompression : ℕ → ℕ → ℕ → Bool
+needsCompression M fcu D = ltb (39 * fcu * squared D) M
+
+-- the three tests of Z, twice the lever arm
+unfoldable pub bears : ℕ → ℕ → ℕ → ℕ → Bool
+bears M fcu D Z = leb (20 * Z) (19 * D) && leb D (2 * Z) && leb M (225 * fcu * Z * (D - Z))
+
+-- the greatest number up to n that passes a test; 0 where none above 0 does
+unfoldable pub greatest : (ℕ → Bool) → ℕ → ℕ
+greatest passes zero = 0
+greatest passes (suc n) = elim (passes (suc n)) [ true ↦ suc n | false ↦ greatest passes n ]
+
+-- Z; what passes the first test is at most D
+unfoldable pub leverArm : ℕ → ℕ → ℕ → ℕ
+leverArm M fcu D = greatest (bears M fcu D) D
+
+-- for a moment M at a lever arm Z
+unfoldable pub neededArea : ℕ → ℕ → ℕ → ℕ
+neededArea M fy Z = roundedUp (200 * M) (87 * fy * Z)
+
+-- of a metre's width; the percentage is in hundredths
+unfoldable pub leastArea : Section → ℕ
+leastArea s = roundedUp (s .least * 1000 * s .thickness) 10000
+
+-- what one bar of each diameter has, in hundredths of mm2, in the order of the bars
+abbrev pub barAreas : List ℕ
+barAreas = 5026 ∷ 7853 ∷ 11309 ∷ 20106 ∷ 31415 ∷ 49087 ∷ 80424 ∷ 125663 ∷ []
+
+-- the area in the place that a diameter has among the bars
+unfoldable pub besides : ℕ → List ℕ → List ℕ → ℕ
+besides n [] areas = 0
+besides n (m ∷ ms) [] = 0
+besides n (m ∷ ms) (area ∷ areas) = cond (eqb n m) area (besides n ms areas)
+
+unfoldable pub barArea : ℕ → ℕ
+barArea bar = besides bar bars barAreas
+
+-- of bars at a spacing, from hundredths of mm2
+unfoldable pub providedArea : ℕ → ℕ → ℕ
+providedArea bar spacing = roundedDown (barArea bar * 1000) (100 * spacing)
+
+-- the greater of needed and least; where compression steel would be needed, 0
+unfoldable pub requiredArea : Section → ℕ → ℕ
+requiredArea s M =
+    cond (needsCompression M (s .concrete) (twiceDepth s)) 0
+    (max (neededArea M (s .steel) (leverArm M (s .concrete) (twiceDepth s))) (leastArea s))
+
+unfoldable pub steelFails : Section → ℕ → Bool
+steelFails s M = needsCompression M (s .concrete) (twiceDepth s) || ltb (providedArea (s .bar) (s .spacing)) (requiredArea s M)
+
+-- ---- shear: one rule for every section
+
+unfoldable pub shearFails : Section → ℕ → Bool
+shearFails s shear =
+    let D = twiceDepth s in
+    not
+    (ltb (2 * shear) (s .stress * D)
+    && leb (2 * shear) (5000 * D)
+    && leb (100 * squared (2 * shear)) (64 * s .concrete * squared (1000 * D)))
+
+-- ---- what is required of each, and what fails; a toe that isn't worked isn't checked
+
+unfoldable pub toeArea : Wall → List Load → ℕ
+toeArea wall loads = cond (toeWorked wall loads) (requiredArea (toeSection wall) (toeMoment wall loads)) 0
+
+unfoldable pub stemArea : Wall → List Load → ℕ
+stemArea wall loads = requiredArea (stemSection wall) (stemMoment wall loads)
+
+unfoldable pub toeSteelFails : Wall → List Load → Bool
+toeSteelFails wall loads = toeWorked wall loads && steelFails (toeSection wall) (toeMoment wall loads)
+
+unfoldable pub stemSteelFails : Wall → List Load → Bool
+stemSteelFails wall loads = steelFails (stemSection wall) (stemMoment wall loads)
+
+unfoldable pub toeShearFails : Wall → List Load → Bool
+toeShearFails wall loads = toeWorked wall loads && shearFails (toeSection wall) (toeShear wall loads)
+
+unfoldable pub stemShearFails : Wall → List Load → Bool
+stemShearFails wall loads = shearFails (stemSection wall) (stemShear wall loads)

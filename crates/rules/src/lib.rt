@@ -1,0 +1,88 @@
+// Document 01 as definitions: `specs/` has a file for each of its headings. Here stand the types that its answers have.
+
+// What is answered: a case for each row of document 01's table of refusals, and one for a job that is worked.
+pub enum Answer {
+    Worked,
+    TooShort,
+    WrongEdition,
+    CountOutOfRange,
+    WrongOffsetOrLength,
+    // the wall's number
+    WallOutOfRange(u32),
+    // the load's number
+    LoadOutOfRange(u32),
+    // the load's number
+    NinthLoad(u32),
+    BufferTooShort,
+    // the number that was asked for
+    NoSuchWall(u32),
+}
+
+// The totals of a wall: R and H in N, and Mrest, Mot and M6 in sixths of a N mm; where they are factored, in tenths of these.
+pub struct Totals {
+    pub vertical: i64,
+    pub horizontal: i64,
+    pub restoring: i64,
+    pub overturning: i64,
+    pub moment: i64,
+}
+
+// A fraction, which is not reduced.
+pub struct Fraction {
+    pub over: i64,
+    pub under: i64,
+}
+
+// How a straight-line block bears on the base: on all of it, as a triangle from one end, or not at all.
+pub enum Kind {
+    Full,
+    FromToe,
+    FromHeel,
+    NoBlock,
+}
+
+// A bearing block: its pressure at the toe and at the heel, and the length of base in contact.
+pub struct Block {
+    pub kind: Kind,
+    pub toe: Fraction,
+    pub heel: Fraction,
+    pub contact: Fraction,
+}
+
+// A metre of toe or stem as the steel sees it: lengths in mm, the concrete's shear stress in 1/1000 N/mm2, strengths in N/mm2, and the
+// least steel in hundredths of a percent.
+pub struct Section {
+    pub thickness: u64,
+    pub cover: u64,
+    pub bar: u64,
+    pub spacing: u64,
+    pub stress: u64,
+    pub concrete: u64,
+    pub steel: u64,
+    pub least: u64,
+}
+
+// The drawing record: the service totals R and H in kN, and R's distance from the toe in mm.
+pub struct Drawing {
+    pub vertical: f64,
+    pub horizontal: f64,
+    pub distance: f64,
+}
+
+// The service block as the drawing office takes it: pressures in kN/m2, lengths in mm.
+pub enum Shape {
+    // the pressure at the toe, and at the heel
+    Whole(f64, f64),
+    // the peak, and the length in contact
+    ToeTriangle(f64, f64),
+    // the peak, and the length in contact
+    HeelTriangle(f64, f64),
+    Nothing,
+}
+
+// What is answered where a drawing is asked for.
+pub struct Drawn {
+    pub answer: Answer,
+    pub drawing: Drawing,
+    pub shape: Shape,
+}

@@ -1,0 +1,3 @@
+pub mod Integer
+pub mod Rounded
+pub mod Sums

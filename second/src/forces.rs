@@ -1,0 +1,266 @@
+//! Document 01, "Forces": weights, pushes, totals, sliding and the prop.
+//!
+//! Forces are whole N per metre run, moments are sixths of a N mm.
+
+use crate::job_file::{Direction, Load, Wall};
+use crate::rounding::{down, half_up, up};
+
+/// Water, in 10 N/m3.
+pub const WATER_DENSITY: i128 = 981;
+
+/// mm x mm x (10 N/m3) = 10 x 10^-6 N: a weight is its product over 10^5.
+const WEIGHT_SCALE: i128 = 100_000;
+/// (10 N/m2) x mm = 10 x 10^-3 N.
+const SURCHARGE_WEIGHT_SCALE: i128 = 100;
+/// The surcharge's scale with a coefficient in thousandths.
+const SURCHARGE_PUSH_SCALE: i128 = 100_000;
+/// The weight's scale with a coefficient in thousandths.
+const EARTH_PUSH_SCALE: i128 = 100_000_000;
+/// Water pushes in full: no coefficient, so the weight's scale.
+const WATER_PUSH_SCALE: i128 = WEIGHT_SCALE;
+/// A coefficient in thousandths on a force in N.
+const FRICTION_SCALE: i128 = 1000;
+
+/// What a component is, which settles its factor and the sum it stands in.
+#[derive(Clone, Copy, Debug, PartialEq, Eq)]
+pub enum Action {
+    OwnWeight,
+    Fill,
+    SurchargeDown,
+    DeadDown,
+    LiveDown,
+    SurchargePush,
+    EarthPush,
+    WaterPush,
+    DeadAcross,
+    LiveAcross,
+}
+
+use Action::*;
+
+impl Action {
+    /// Stem, base, fill and dead loads down: what Mrest takes.
+    pub fn restores(self) -> bool {
+        matches!(self, OwnWeight | Fill | DeadDown)
+    }
+
+    /// Pushes and horizontal loads: what Mot takes.
+    pub fn overturns(self) -> bool {
+        matches!(
+            self,
+            SurchargePush | EarthPush | WaterPush | DeadAcross | LiveAcross
+        )
+    }
+
+    /// Neither: down like a weight, but not relied on.
+    pub fn is_transient(self) -> bool {
+        matches!(self, SurchargeDown | LiveDown)
+    }
+
+    /// The factor of the factored case, in tenths.
+    pub fn factor(self) -> i128 {
+        match self {
+            SurchargeDown | SurchargePush | LiveDown | LiveAcross => 16,
+            _ => 14,
+        }
+    }
+}
+
+/// A row of the component table. The moment is about the toe (or the foot of
+/// the part looked at), above 0 both for restoring and for overturning.
+#[derive(Clone, Copy, Debug, PartialEq, Eq)]
+pub struct Component {
+    pub action: Action,
+    pub vertical: i128,
+    pub horizontal: i128,
+    pub moment: i128,
+}
+
+/// A force down; the distance from the toe is in sixths of a mm.
+fn weight(action: Action, force: i128, six_distances: i128) -> Component {
+    Component {
+        action,
+        vertical: force,
+        horizontal: 0,
+        moment: force * six_distances,
+    }
+}
+
+/// A force towards the toe; its height is in sixths of a mm.
+fn push(action: Action, force: i128, six_heights: i128) -> Component {
+    Component {
+        action,
+        vertical: 0,
+        horizontal: force,
+        moment: force * six_heights,
+    }
+}
+
+/// Stem, base, the two fills and the surcharge over the heel. Reading taken: the
+/// surcharge stands among the weights, so it is rounded as one, halves up.
+pub fn weights(wall: &Wall) -> [Component; 5] {
+    let length = wall.base_length();
+    let wet = wall.water_on_base();
+    let dry = wall.stem_height - wet;
+    let block = |area: i128, density: i128| half_up(area * density, WEIGHT_SCALE);
+    let over_heel = 6 * length - 3 * wall.heel;
+    [
+        weight(
+            OwnWeight,
+            block(wall.stem_height * wall.stem_thickness, wall.stem_density),
+            6 * wall.toe + 3 * wall.stem_thickness,
+        ),
+        weight(
+            OwnWeight,
+            block(length * wall.base_thickness, wall.base_density),
+            3 * length,
+        ),
+        weight(
+            Fill,
+            block(wall.heel * wet, wall.saturated_density),
+            over_heel,
+        ),
+        weight(Fill, block(wall.heel * dry, wall.moist_density), over_heel),
+        weight(
+            SurchargeDown,
+            half_up(wall.surcharge * wall.heel, SURCHARGE_WEIGHT_SCALE),
+            over_heel,
+        ),
+    ]
+}
+
+/// The five pushes on a back of the given height with water up to `water`,
+/// both mm above the foot, for a coefficient in thousandths.
+pub fn pushes(wall: &Wall, coefficient: i128, height: i128, water: i128) -> [Component; 5] {
+    let moist = coefficient * wall.moist_density;
+    let buoyant = coefficient * (wall.saturated_density - WATER_DENSITY);
+    let above = height - water;
+    [
+        push(
+            SurchargePush,
+            up(coefficient * wall.surcharge * height, SURCHARGE_PUSH_SCALE),
+            3 * height,
+        ),
+        push(
+            EarthPush,
+            up(moist * above * above, 2 * EARTH_PUSH_SCALE),
+            2 * (height + 2 * water),
+        ),
+        push(
+            EarthPush,
+            up(moist * above * water, EARTH_PUSH_SCALE),
+            3 * water,
+        ),
+        push(
+            EarthPush,
+            up(buoyant * water * water, 2 * EARTH_PUSH_SCALE),
+            2 * water,
+        ),
+        push(
+            WaterPush,
+            up(WATER_DENSITY * water * water, 2 * WATER_PUSH_SCALE),
+            2 * water,
+        ),
+    ]
+}
+
+/// The dead and the live component of a load whose position counts from
+/// `datum` mm.
+pub fn load_components(load: &Load, datum: i128) -> [Component; 2] {
+    let arm = 6 * (load.position - datum);
+    match load.direction {
+        Direction::Down => [
+            weight(DeadDown, load.dead, arm),
+            weight(LiveDown, load.live, arm),
+        ],
+        Direction::Across => [
+            push(DeadAcross, load.dead, arm),
+            push(LiveAcross, load.live, arm),
+        ],
+    }
+}
+
+/// The component table of a whole wall for one coefficient of earth pressure.
+pub fn component_table(wall: &Wall, loads: &[Load], coefficient: i128) -> Vec<Component> {
+    let mut table = weights(wall).to_vec();
+    table.extend(pushes(wall, coefficient, wall.height(), wall.water_height));
+    table.extend(loads.iter().flat_map(|load| load_components(load, 0)));
+    table
+}
+
+/// R, H in N; Mrest, Mot and M6 in sixths of a N mm. Factored: in tenths of
+/// those.
+#[derive(Clone, Copy, Debug, PartialEq, Eq)]
+pub struct Totals {
+    pub r: i128,
+    pub h: i128,
+    pub mrest: i128,
+    pub mot: i128,
+    pub m6: i128,
+}
+
+/// Sums of a table, each row times the multiplier of its action.
+pub fn totals(table: &[Component], multiplier: impl Fn(Action) -> i128) -> Totals {
+    let sum = |of: &dyn Fn(&Component) -> i128| -> i128 {
+        table.iter().map(|c| multiplier(c.action) * of(c)).sum()
+    };
+    let moment_where = |taken: &dyn Fn(Action) -> bool| -> i128 {
+        sum(&|c| if taken(c.action) { c.moment } else { 0 })
+    };
+    let mrest = moment_where(&Action::restores);
+    let mot = moment_where(&Action::overturns);
+    Totals {
+        r: sum(&|c| c.vertical),
+        h: sum(&|c| c.horizontal),
+        mrest,
+        mot,
+        m6: mrest - mot + moment_where(&Action::is_transient),
+    }
+}
+
+pub fn service_totals(wall: &Wall, loads: &[Load]) -> Totals {
+    totals(&component_table(wall, loads, wall.ka), |_| 1)
+}
+
+pub fn factored_totals(wall: &Wall, loads: &[Load]) -> Totals {
+    totals(&component_table(wall, loads, wall.k0), Action::factor)
+}
+
+/// mm of soil in front that still resists.
+pub fn passive_depth(wall: &Wall) -> i128 {
+    (wall.cover_in_front + wall.base_thickness - wall.excavation).max(0)
+}
+
+/// N, rounded down.
+pub fn passive_force(wall: &Wall) -> i128 {
+    let depth = passive_depth(wall);
+    down(
+        wall.kp_cos * wall.base_soil_density * depth * depth,
+        2 * EARTH_PUSH_SCALE,
+    )
+}
+
+/// N, rounded down, from all that stands on the base for good: the service R
+/// less the rounded surcharge over the heel and the live loads down.
+pub fn friction(wall: &Wall, loads: &[Load]) -> i128 {
+    let lasting: i128 = component_table(wall, loads, wall.ka)
+        .iter()
+        .filter(|c| !c.action.is_transient())
+        .map(|c| c.vertical)
+        .sum();
+    down(wall.tangent * lasting, FRICTION_SCALE)
+}
+
+/// Whether an unpropped wall slides; a propped one is held.
+pub fn slides(wall: &Wall, resistance: i128, h: i128) -> bool {
+    !wall.propped && resistance < h
+}
+
+/// N the prop must give; 0 without a prop.
+pub fn propping_force(wall: &Wall, resistance: i128, h: i128) -> i128 {
+    if wall.propped {
+        (h - resistance).max(0)
+    } else {
+        0
+    }
+}

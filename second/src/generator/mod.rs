@@ -1,0 +1,75 @@
+//! Seeded job files: the same seed gives the same files everywhere.
+
+pub mod draft;
+mod edges;
+mod raw;
+mod refused;
+mod seek;
+mod valid;
+
+use crate::random::Random;
+
+/// What is known of a sample by the way it was made.
+#[derive(Clone, Copy, Debug, PartialEq, Eq)]
+pub enum Due {
+    Accepted,
+    /// Number and place of the refusal.
+    Refused(u8, u64),
+    Unknown,
+}
+
+/// One job file.
+#[derive(Clone, Debug, PartialEq, Eq)]
+pub struct Sample {
+    pub bytes: Vec<u8>,
+    pub due: Due,
+}
+
+/// Makes the sample of an index; kinds with variants take them in turn.
+pub type Maker = fn(&mut Random, usize) -> Sample;
+
+pub const KINDS: [(&str, Maker); 27] = [
+    ("typical", valid::typical),
+    ("wide", valid::wide),
+    ("field-ends", valid::field_ends),
+    ("all-ends", valid::all_ends),
+    ("water", valid::water),
+    ("loads", valid::loads),
+    ("interleaved", valid::interleaved),
+    ("propped-or-not", valid::propped_or_not),
+    ("odd-stem", valid::odd_stem),
+    ("no-toe", valid::no_toe),
+    ("no-heel", valid::no_heel),
+    ("large", valid::large),
+    ("service-block", seek::service_block),
+    ("factored-block", seek::factored_block),
+    ("block-pairs", seek::block_pairs),
+    ("failure-bits", seek::failure_bits),
+    ("toe-and-stem", seek::toe_and_stem),
+    ("edges", edges::edges),
+    ("refused-short", refused::short),
+    ("refused-edition", refused::edition),
+    ("refused-count", refused::count),
+    ("refused-offset", refused::offset),
+    ("refused-wall", refused::wall),
+    ("refused-load", refused::load),
+    ("refused-ninth", refused::ninth),
+    ("mangled", raw::mangled),
+    ("raw", raw::raw),
+];
+
+/// The sample of a seed, a place in [`KINDS`] and an index from 0.
+pub fn sample(seed: u64, kind: usize, index: usize) -> Sample {
+    let mut random = Random::for_sample(seed, kind as u64, index as u64);
+    KINDS[kind].1(&mut random, index)
+}
+
+/// `count` samples of a seed, going round the kinds, each with the stem of its
+/// file name. A longer run starts with the files of a shorter one.
+pub fn samples(seed: u64, count: usize) -> impl Iterator<Item = (String, Sample)> {
+    (0..count).map(move |i| {
+        let (kind, index) = (i % KINDS.len(), i / KINDS.len());
+        let name = format!("{}-{:04}", KINDS[kind].0, index + 1);
+        (name, sample(seed, kind, index))
+    })
+}

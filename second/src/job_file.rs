@@ -1,0 +1,318 @@
+//! Document 01, "The job file": the layout, the fields and their ranges.
+
+pub const EDITION: u16 = 1;
+pub const HEADER_BYTES: usize = 12;
+pub const WALL_FIELDS: usize = 31;
+pub const LOAD_FIELDS: usize = 5;
+pub const WALL_BYTES: usize = 4 * WALL_FIELDS;
+pub const LOAD_BYTES: usize = 4 * LOAD_FIELDS;
+pub const MOST_WALLS: usize = 64;
+pub const MOST_LOADS: usize = 512;
+pub const MOST_LOADS_A_WALL: usize = 8;
+pub const MOST_LOAD: u32 = 200_000;
+pub const BARS: [u32; 8] = [8, 10, 12, 16, 20, 25, 32, 40];
+
+/// Places of the wall fields in their record, counted from 0 (document 01
+/// counts from 1).
+pub mod field {
+    pub const KIND: usize = 0;
+    pub const STEM_HEIGHT: usize = 1;
+    pub const STEM_THICKNESS: usize = 2;
+    pub const TOE: usize = 3;
+    pub const HEEL: usize = 4;
+    pub const BASE_THICKNESS: usize = 5;
+    pub const COVER_IN_FRONT: usize = 6;
+    pub const EXCAVATION: usize = 7;
+    pub const WATER_HEIGHT: usize = 8;
+    pub const STEM_DENSITY: usize = 9;
+    pub const BASE_DENSITY: usize = 10;
+    pub const MOIST_DENSITY: usize = 11;
+    pub const SATURATED_DENSITY: usize = 12;
+    pub const BASE_SOIL_DENSITY: usize = 13;
+    pub const KA: usize = 14;
+    pub const K0: usize = 15;
+    pub const KP_COS: usize = 16;
+    pub const TANGENT: usize = 17;
+    pub const ALLOWABLE: usize = 18;
+    pub const SURCHARGE: usize = 19;
+    pub const FCU: usize = 20;
+    pub const FY: usize = 21;
+    pub const LEAST_STEEL: usize = 22;
+    pub const TOE_COVER: usize = 23;
+    pub const TOE_BAR: usize = 24;
+    pub const TOE_SPACING: usize = 25;
+    pub const STEM_COVER: usize = 26;
+    pub const STEM_BAR: usize = 27;
+    pub const STEM_SPACING: usize = 28;
+    pub const TOE_SHEAR_STRESS: usize = 29;
+    pub const STEM_SHEAR_STRESS: usize = 30;
+}
+
+pub type RawWall = [u32; WALL_FIELDS];
+pub type RawLoad = [u32; LOAD_FIELDS];
+
+/// What a wall field may hold.
+#[derive(Clone, Copy, Debug, PartialEq, Eq)]
+pub enum Range {
+    Between(u32, u32),
+    Bar,
+    /// 0 up to stem height + base thickness of the same wall.
+    Water,
+}
+
+use Range::{Bar, Between, Water};
+
+pub const RANGES: [Range; WALL_FIELDS] = [
+    Between(0, 1),
+    Between(500, 8000),
+    Between(200, 1500),
+    Between(0, 5000),
+    Between(0, 5000),
+    Between(200, 1500),
+    Between(0, 1000),
+    Between(0, 1000),
+    Water,
+    Between(1500, 3000),
+    Between(1500, 3000),
+    Between(1000, 3000),
+    Between(1000, 3000),
+    Between(1000, 3000),
+    Between(1, 1000),
+    Between(1, 1000),
+    Between(0, 15_000),
+    Between(0, 1000),
+    Between(1, 1000),
+    Between(0, 10_000),
+    Between(20, 60),
+    Between(250, 500),
+    Between(0, 100),
+    Between(20, 75),
+    Bar,
+    Between(50, 500),
+    Between(20, 75),
+    Bar,
+    Between(50, 500),
+    Between(1, 5000),
+    Between(1, 5000),
+];
+
+/// Whether a wall field, counted from 0, is within its range.
+pub fn field_in_range(raw: &RawWall, index: usize) -> bool {
+    let value = raw[index];
+    match RANGES[index] {
+        Between(low, high) => (low..=high).contains(&value),
+        Bar => BARS.contains(&value),
+        Water => {
+            let crest = u64::from(raw[field::STEM_HEIGHT]) + u64::from(raw[field::BASE_THICKNESS]);
+            u64::from(value) <= crest
+        }
+    }
+}
+
+/// The six numbers a file starts with.
+#[derive(Clone, Copy, Debug, PartialEq, Eq)]
+pub struct Header {
+    pub edition: u16,
+    pub walls: u16,
+    pub first_wall: u16,
+    pub loads: u16,
+    pub first_load: u16,
+    pub length: u16,
+}
+
+impl Header {
+    /// `None` when the input is shorter than a header.
+    pub fn read(input: &[u8]) -> Option<Header> {
+        let bytes = input.get(..HEADER_BYTES)?;
+        let at = |i: usize| u16::from_le_bytes([bytes[2 * i], bytes[2 * i + 1]]);
+        Some(Header {
+            edition: at(0),
+            walls: at(1),
+            first_wall: at(2),
+            loads: at(3),
+            first_load: at(4),
+            length: at(5),
+        })
+    }
+
+    /// Offset of the first load that the count of walls gives.
+    pub fn first_load_due(&self) -> usize {
+        HEADER_BYTES + WALL_BYTES * usize::from(self.walls)
+    }
+
+    /// Whole length that the two counts give.
+    pub fn length_due(&self) -> usize {
+        self.first_load_due() + LOAD_BYTES * usize::from(self.loads)
+    }
+}
+
+/// The u32 numbers of one record. The caller has checked the input's length.
+pub fn read_record<const N: usize>(input: &[u8], offset: usize) -> [u32; N] {
+    std::array::from_fn(|i| {
+        let at = offset + 4 * i;
+        u32::from_le_bytes([input[at], input[at + 1], input[at + 2], input[at + 3]])
+    })
+}
+
+/// Bars and their place in a section: mm, mm, mm and 1/1000 N/mm2.
+#[derive(Clone, Copy, Debug, PartialEq, Eq)]
+pub struct Reinforcement {
+    pub cover: i128,
+    pub bar: i128,
+    pub spacing: i128,
+    pub concrete_shear_stress: i128,
+}
+
+/// One wall: lengths mm, densities in 10 N/m3, coefficients in thousandths.
+#[derive(Clone, Debug, PartialEq, Eq)]
+pub struct Wall {
+    pub propped: bool,
+    pub stem_height: i128,
+    pub stem_thickness: i128,
+    pub toe: i128,
+    pub heel: i128,
+    pub base_thickness: i128,
+    pub cover_in_front: i128,
+    pub excavation: i128,
+    pub water_height: i128,
+    pub stem_density: i128,
+    pub base_density: i128,
+    pub moist_density: i128,
+    pub saturated_density: i128,
+    pub base_soil_density: i128,
+    pub ka: i128,
+    pub k0: i128,
+    pub kp_cos: i128,
+    pub tangent: i128,
+    /// kN/m2
+    pub allowable: i128,
+    /// 10 N/m2
+    pub surcharge: i128,
+    /// N/mm2
+    pub fcu: i128,
+    /// N/mm2
+    pub fy: i128,
+    /// hundredths of a percent
+    pub least_steel: i128,
+    pub toe_bars: Reinforcement,
+    pub stem_bars: Reinforcement,
+}
+
+impl Wall {
+    pub fn from_raw(raw: &RawWall) -> Wall {
+        let of = |index: usize| i128::from(raw[index]);
+        Wall {
+            propped: raw[field::KIND] == 1,
+            stem_height: of(field::STEM_HEIGHT),
+            stem_thickness: of(field::STEM_THICKNESS),
+            toe: of(field::TOE),
+            heel: of(field::HEEL),
+            base_thickness: of(field::BASE_THICKNESS),
+            cover_in_front: of(field::COVER_IN_FRONT),
+            excavation: of(field::EXCAVATION),
+            water_height: of(field::WATER_HEIGHT),
+            stem_density: of(field::STEM_DENSITY),
+            base_density: of(field::BASE_DENSITY),
+            moist_density: of(field::MOIST_DENSITY),
+            saturated_density: of(field::SATURATED_DENSITY),
+            base_soil_density: of(field::BASE_SOIL_DENSITY),
+            ka: of(field::KA),
+            k0: of(field::K0),
+            kp_cos: of(field::KP_COS),
+            tangent: of(field::TANGENT),
+            allowable: of(field::ALLOWABLE),
+            surcharge: of(field::SURCHARGE),
+            fcu: of(field::FCU),
+            fy: of(field::FY),
+            least_steel: of(field::LEAST_STEEL),
+            toe_bars: reinforcement(raw, field::TOE_COVER, field::TOE_SHEAR_STRESS),
+            stem_bars: reinforcement(raw, field::STEM_COVER, field::STEM_SHEAR_STRESS),
+        }
+    }
+
+    /// l: the base from toe to heel, mm.
+    pub fn base_length(&self) -> i128 {
+        self.toe + self.stem_thickness + self.heel
+    }
+
+    /// h: the fill from the base underside to the top, mm.
+    pub fn height(&self) -> i128 {
+        self.stem_height + self.base_thickness
+    }
+
+    /// hsat: the water's height above the top of the base, mm.
+    pub fn water_on_base(&self) -> i128 {
+        (self.water_height - self.base_thickness).max(0)
+    }
+}
+
+fn reinforcement(raw: &RawWall, cover: usize, shear: usize) -> Reinforcement {
+    Reinforcement {
+        cover: i128::from(raw[cover]),
+        bar: i128::from(raw[cover + 1]),
+        spacing: i128::from(raw[cover + 2]),
+        concrete_shear_stress: i128::from(raw[shear]),
+    }
+}
+
+#[derive(Clone, Copy, Debug, PartialEq, Eq)]
+pub enum Direction {
+    Down,
+    /// Horizontal, towards the toe.
+    Across,
+}
+
+/// One load, in N per metre run. The position is mm from the toe for a load
+/// down, mm above the base underside for a horizontal one.
+#[derive(Clone, Copy, Debug, PartialEq, Eq)]
+pub struct Load {
+    /// Counted from 1.
+    pub wall: usize,
+    pub direction: Direction,
+    pub position: i128,
+    pub dead: i128,
+    pub live: i128,
+}
+
+impl Load {
+    /// `None` when a field is out of range or the wall isn't in the file.
+    pub fn from_raw(raw: &RawLoad, walls: &[Wall]) -> Option<Load> {
+        let [number, direction, position, dead, live] = *raw;
+        let wall = usize::try_from(number).ok()?;
+        let carrier = walls.get(wall.checked_sub(1)?)?;
+        let (direction, furthest) = match direction {
+            0 => (Direction::Down, carrier.base_length()),
+            1 => (Direction::Across, carrier.height()),
+            _ => return None,
+        };
+        let position = i128::from(position);
+        if position > furthest || dead > MOST_LOAD || live > MOST_LOAD {
+            return None;
+        }
+        Some(Load {
+            wall,
+            direction,
+            position,
+            dead: i128::from(dead),
+            live: i128::from(live),
+        })
+    }
+}
+
+/// An accepted file.
+#[derive(Clone, Debug, PartialEq, Eq)]
+pub struct Job {
+    pub walls: Vec<Wall>,
+    pub loads: Vec<Load>,
+}
+
+impl Job {
+    /// The loads of a wall, numbered from 1, in file order.
+    pub fn loads_of(&self, wall: usize) -> Vec<Load> {
+        self.loads
+            .iter()
+            .copied()
+            .filter(|load| load.wall == wall)
+            .collect()
+    }
+}

@@ -1,0 +1,200 @@
+//! Document 01, "Toe and stem": shear, moment, steel and the shear check.
+//!
+//! V in N and M in N mm, both per metre run.
+
+use crate::bearing::{Contact, Reported};
+use crate::forces::{load_components, pushes, Action, Component};
+use crate::job_file::{Direction, Load, Reinforcement, Wall, BARS};
+use crate::rounding::{down, up};
+
+/// N/m2 under the base at a point, rounded up to a whole number before any use.
+/// Reading taken: a whole block's line joins its exact ends, but a triangle
+/// scales its reported, already rounded, peak by its exact contact. The point is given as twice its
+/// distance from the toe, as half the stem may end on half a mm.
+pub fn pressure_at(bearing: &Reported, l: i128, twice_s: i128) -> i128 {
+    let Reported { block, case, .. } = bearing;
+    let contact = block.contact;
+    // Twice the contact, and twice the distance into it from its zero end,
+    // both times the lower number of the contact's fraction.
+    let reach = 2 * contact.over;
+    match block.kind {
+        Contact::Whole => {
+            // Both ends of a whole block stand over l^2.
+            let line = block.toe.over * (2 * l - twice_s) + block.heel.over * twice_s;
+            up(case.pascals() * line, 2 * l * block.toe.under)
+        }
+        Contact::ToeTriangle => {
+            let into = reach - contact.under * twice_s;
+            up(bearing.toe * into.max(0), reach)
+        }
+        Contact::HeelTriangle => {
+            let into = reach - contact.under * (2 * l - twice_s);
+            up(bearing.heel * into.max(0), reach)
+        }
+    }
+}
+
+/// Shear and moment of a part.
+#[derive(Clone, Copy, Debug, PartialEq, Eq)]
+pub struct Effects {
+    pub shear: i128,
+    pub moment: i128,
+}
+
+/// The toe under a factored block, its own weight (1.4 times) taken off. The
+/// weight is worked from the slab itself, not from the rounded base weight.
+pub fn toe_effects(wall: &Wall, bearing: &Reported) -> Effects {
+    let l = wall.base_length();
+    // 2a, a being the distance from the toe to the middle of the stem.
+    let twice_a = 2 * wall.toe + wall.stem_thickness;
+    let at_end = pressure_at(bearing, l, 0);
+    let at_face = pressure_at(bearing, l, 2 * wall.toe);
+    let at_middle = pressure_at(bearing, l, twice_a);
+    // 14 tenths x (10 N/m3) x mm = 14/1000 N/m2.
+    let slab = 14 * wall.base_density * wall.base_thickness;
+    // (N/m2) x mm = N/1000, halved; the slab another 1000.
+    let shear = up((at_end + at_face) * wall.toe, 2000) - down(slab * wall.toe, 1_000_000);
+    // (N/m2) x mm2 = N mm/1000; a sixth of a^2 is (2a)^2/24, a half (2a)^2/8.
+    let square = twice_a * twice_a;
+    let moment = up((2 * at_end + at_middle) * square, 24_000) - down(slab * square, 8_000_000);
+    Effects {
+        shear: shear.max(0),
+        moment: moment.max(0),
+    }
+}
+
+/// The stem above the base. Each push is rounded up in whole N before its
+/// factor; the sums are rounded up once more.
+pub fn stem_effects(wall: &Wall, loads: &[Load]) -> Effects {
+    let mut table: Vec<Component> =
+        pushes(wall, wall.k0, wall.stem_height, wall.water_on_base()).to_vec();
+    let top_of_base = wall.base_thickness;
+    table.extend(
+        loads
+            .iter()
+            .filter(|load| load.direction == Direction::Across && load.position >= top_of_base)
+            .flat_map(|load| load_components(load, top_of_base)),
+    );
+    let factored = |of: fn(&Component) -> i128| -> i128 {
+        table.iter().map(|c| Action::factor(c.action) * of(c)).sum()
+    };
+    // Tenths of a N; tenths of sixths of a N mm.
+    Effects {
+        shear: up(factored(|c| c.horizontal), 10),
+        moment: up(factored(|c| c.moment), 60),
+    }
+}
+
+/// D, twice the effective depth, mm.
+pub fn twice_depth(thickness: i128, bars: &Reinforcement) -> i128 {
+    2 * thickness - 2 * bars.cover - bars.bar
+}
+
+/// Whether the concrete alone can't take the moment.
+pub fn needs_compression_steel(moment: i128, d: i128, fcu: i128) -> bool {
+    moment > 39 * fcu * d * d
+}
+
+/// Z, twice the lever arm, mm; `None` where compression steel would be needed.
+pub fn twice_lever_arm(moment: i128, d: i128, fcu: i128) -> Option<i128> {
+    if needs_compression_steel(moment, d, fcu) {
+        return None;
+    }
+    let greatest = down(19 * d, 20);
+    let least = up(d, 2);
+    (least..=greatest)
+        .rev()
+        .find(|z| moment <= 225 * fcu * z * (d - z))
+}
+
+/// mm2 per metre for the moment, rounded up.
+pub fn needed_steel(moment: i128, fy: i128, z: i128) -> i128 {
+    up(200 * moment, 87 * fy * z)
+}
+
+/// mm2 per metre whatever the moment, rounded up; the percentage is in
+/// hundredths.
+pub fn least_steel(percentage: i128, thickness: i128) -> i128 {
+    up(percentage * 1000 * thickness, 10_000)
+}
+
+/// Area of one bar in hundredths of mm2, in the order of [`BARS`].
+const BAR_AREAS: [i128; 8] = [5026, 7853, 11309, 20106, 31415, 49087, 80424, 125_663];
+
+/// mm2 per metre put in, rounded down; 0 for a bar that isn't made.
+pub fn provided_steel(bar: i128, spacing: i128) -> i128 {
+    BARS.iter()
+        .zip(BAR_AREAS)
+        .find(|(size, _)| i128::from(**size) == bar)
+        .map_or(0, |(_, area)| down(area * 1000, 100 * spacing))
+}
+
+/// Whether V passes all three limits of stress; 2V over 1000 D is the stress
+/// in N/mm2. The first limit is strict.
+pub fn shear_passes(shear: i128, d: i128, stress: i128, fcu: i128) -> bool {
+    let twice = 2 * shear;
+    let area = 1000 * d;
+    twice < stress * d && twice <= 5000 * d && 100 * twice * twice <= 64 * fcu * area * area
+}
+
+/// All that is worked for the toe or for the stem.
+#[derive(Clone, Copy, Debug, PartialEq, Eq)]
+pub struct Section {
+    pub effects: Effects,
+    pub twice_depth: i128,
+    pub lever_arm: Option<i128>,
+    pub needed: i128,
+    pub least: i128,
+    /// 0 where compression steel would be needed.
+    pub required: i128,
+    pub provided: i128,
+    pub steel_fails: bool,
+    pub shear_fails: bool,
+}
+
+/// The checks of a section of the given thickness. Reading taken: where
+/// compression steel would be needed the area is 0 even if a least area is set.
+pub fn check_section(
+    wall: &Wall,
+    thickness: i128,
+    bars: &Reinforcement,
+    effects: Effects,
+) -> Section {
+    let d = twice_depth(thickness, bars);
+    let lever_arm = twice_lever_arm(effects.moment, d, wall.fcu);
+    let needed = lever_arm.map_or(0, |z| needed_steel(effects.moment, wall.fy, z));
+    let least = least_steel(wall.least_steel, thickness);
+    let required = lever_arm.map_or(0, |_| needed.max(least));
+    let provided = provided_steel(bars.bar, bars.spacing);
+    Section {
+        effects,
+        twice_depth: d,
+        lever_arm,
+        needed,
+        least,
+        required,
+        provided,
+        steel_fails: lever_arm.is_none() || provided < required,
+        shear_fails: !shear_passes(effects.shear, d, bars.concrete_shear_stress, wall.fcu),
+    }
+}
+
+/// `None` where no toe check is made: no toe, or no factored block given (for
+/// want of moment or for its peak).
+/// Reading taken: the toe figures are V, M and the area; the block's own toe
+/// pressure is not one of them and is still reported with a toe of 0 mm.
+pub fn toe_section(wall: &Wall, factored: Option<&Reported>) -> Option<Section> {
+    let bearing = factored.filter(|_| wall.toe > 0)?;
+    let effects = toe_effects(wall, bearing);
+    Some(check_section(
+        wall,
+        wall.base_thickness,
+        &wall.toe_bars,
+        effects,
+    ))
+}
+
+pub fn stem_section(wall: &Wall, loads: &[Load]) -> Section {
+    let effects = stem_effects(wall, loads);
+    check_section(wall, wall.stem_thickness, &wall.stem_bars, effects)
+}

@@ -1,0 +1,132 @@
+//! Document 01, "The sheet line": the failures and the 16 numbers of a wall.
+
+use crate::bearing::{Bearing, Case};
+use crate::forces::{
+    factored_totals, friction, passive_force, propping_force, service_totals, slides, Totals,
+};
+use crate::job_file::{Job, Load, Wall};
+use crate::section::{stem_section, toe_section, Section};
+
+pub const SLIDES: u8 = 1;
+pub const OVERTURNS: u8 = 2;
+pub const OVER_ALLOWABLE: u8 = 4;
+pub const NO_SERVICE_BLOCK: u8 = 8;
+pub const NO_FACTORED_BLOCK: u8 = 16;
+pub const TOE_STEEL: u8 = 32;
+pub const STEM_STEEL: u8 = 64;
+pub const SHEAR: u8 = 128;
+
+/// Everything worked for one wall.
+#[derive(Clone, Debug, PartialEq)]
+pub struct Worked {
+    /// Counted from 1.
+    pub number: usize,
+    pub service: Totals,
+    pub factored: Totals,
+    pub passive: i128,
+    pub friction: i128,
+    pub prop: i128,
+    pub service_bearing: Bearing,
+    pub factored_bearing: Bearing,
+    pub toe: Option<Section>,
+    pub stem: Section,
+    pub failures: u8,
+}
+
+/// Works the wall with this number and these loads of its own.
+pub fn work_wall(number: usize, wall: &Wall, loads: &[Load]) -> Worked {
+    let l = wall.base_length();
+    let service = service_totals(wall, loads);
+    let factored = factored_totals(wall, loads);
+    let passive = passive_force(wall);
+    let friction = friction(wall, loads);
+    let factored_bearing = Bearing::of(factored.r, factored.m6, l, Case::Factored);
+    let mut worked = Worked {
+        number,
+        service,
+        factored,
+        passive,
+        friction,
+        prop: propping_force(wall, passive + friction, service.h),
+        service_bearing: Bearing::of(service.r, service.m6, l, Case::Service),
+        factored_bearing,
+        toe: toe_section(wall, factored_bearing.given()),
+        stem: stem_section(wall, loads),
+        failures: 0,
+    };
+    worked.failures = failures(wall, &worked);
+    worked
+}
+
+/// All walls of a job in file order.
+pub fn work_job(job: &Job) -> Vec<Worked> {
+    let numbered = job.walls.iter().enumerate();
+    numbered
+        .map(|(index, wall)| work_wall(index + 1, wall, &job.loads_of(index + 1)))
+        .collect()
+}
+
+fn failures(wall: &Wall, worked: &Worked) -> u8 {
+    let (toe, heel) = worked.service_bearing.pressures();
+    // Allowable in kN/m2. A reported pressure is over a whole number of N/m2
+    // just when the exact one is.
+    let allowable = 1000 * wall.allowable;
+    let toe_part = |fails: fn(&Section) -> bool| worked.toe.as_ref().is_some_and(fails);
+    let checks = [
+        (
+            SLIDES,
+            slides(wall, worked.passive + worked.friction, worked.service.h),
+        ),
+        (OVERTURNS, worked.service.mrest < worked.service.mot),
+        (OVER_ALLOWABLE, toe > allowable || heel > allowable),
+        (NO_SERVICE_BLOCK, worked.service_bearing.given().is_none()),
+        (NO_FACTORED_BLOCK, worked.factored_bearing.given().is_none()),
+        (TOE_STEEL, toe_part(|s| s.steel_fails)),
+        (STEM_STEEL, worked.stem.steel_fails),
+        (
+            SHEAR,
+            toe_part(|s| s.shear_fails) || worked.stem.shear_fails,
+        ),
+    ];
+    checks
+        .iter()
+        .filter(|(_, fails)| *fails)
+        .fold(0, |byte, (bit, _)| byte | bit)
+}
+
+impl Worked {
+    /// The 16 numbers in the line's order.
+    pub fn numbers(&self) -> [i128; 16] {
+        let (toe, heel) = self.service_bearing.pressures();
+        let (factored_toe, factored_heel) = self.factored_bearing.pressures();
+        let figures = |s: &Section| [s.effects.shear, s.effects.moment, s.required];
+        let [toe_v, toe_m, toe_area] = self.toe.as_ref().map_or([0; 3], figures);
+        let [stem_v, stem_m, stem_area] = figures(&self.stem);
+        [
+            self.number as i128,
+            i128::from(self.failures),
+            self.service.r,
+            self.service.h,
+            self.prop,
+            self.service.m6,
+            toe,
+            heel,
+            factored_toe,
+            factored_heel,
+            toe_v,
+            toe_m,
+            toe_area,
+            stem_v,
+            stem_m,
+            stem_area,
+        ]
+    }
+
+    /// The printed line, without its newline.
+    pub fn line(&self) -> String {
+        let numbers = self.numbers();
+        let mut words = vec![numbers[0].to_string(), format!("{:02x}", self.failures)];
+        words.extend(numbers[2..].iter().map(i128::to_string));
+        words.join(" ")
+    }
+}

@@ -1,0 +1,474 @@
+//! What a job touches, in stable words, for counting coverage.
+
+use crate::answers::accept;
+use crate::bearing::{Bearing, Contact, GREATEST_PEAK};
+use crate::forces::{passive_depth, Totals};
+use crate::job_file::{Direction, Job, Load, Wall};
+use crate::section::{pressure_at, shear_passes, Section};
+use crate::sheet_line::{work_wall, Worked};
+use std::collections::BTreeSet;
+
+pub type Words = BTreeSet<&'static str>;
+
+/// Every word there is. The generator is held to reach each of them.
+pub const VOCABULARY: &[&str] = &[
+    // The answer.
+    "accepted",
+    "refused-1",
+    "refused-2",
+    "refused-3",
+    "refused-4",
+    "refused-5",
+    "refused-6",
+    "refused-7",
+    // The job.
+    "one-wall",
+    "few-walls",
+    "64-walls",
+    "no-loads",
+    "512-loads",
+    "loads-in-turn",
+    "loads-interleaved",
+    // The wall.
+    "unpropped",
+    "propped",
+    "odd-stem",
+    "even-stem",
+    "no-toe",
+    "toe",
+    "no-heel",
+    "heel",
+    "water-at-0",
+    "water-below-base-top",
+    "water-at-base-top",
+    "water-above-base-top",
+    "water-at-crest",
+    "passive-depth-0",
+    "passive-depth",
+    "surcharge-0",
+    "surcharge",
+    // The loads.
+    "loads-0",
+    "loads-1",
+    "loads-2",
+    "loads-3",
+    "loads-4",
+    "loads-5",
+    "loads-6",
+    "loads-7",
+    "loads-8",
+    "down-at-toe",
+    "down-between",
+    "down-at-heel",
+    "across-at-0",
+    "across-below-base-top",
+    "across-at-base-top",
+    "across-above-base-top",
+    "across-at-crest",
+    "load-dead",
+    "load-live",
+    "load-dead-and-live",
+    "load-of-nothing",
+    // The blocks.
+    "service-whole",
+    "service-toe",
+    "service-heel",
+    "service-none-moment",
+    "service-none-peak",
+    "factored-whole",
+    "factored-toe",
+    "factored-heel",
+    "factored-none-moment",
+    "factored-none-peak",
+    "service-m6-negative",
+    "factored-m6-negative",
+    "service-m6-is-0",
+    "factored-m6-is-0",
+    "service-m6-is-2rl",
+    "factored-m6-is-2rl",
+    "service-m6-is-4rl",
+    "factored-m6-is-4rl",
+    "service-peak-at-limit",
+    "factored-peak-at-limit",
+    // The failures.
+    "bit-1-set",
+    "bit-2-set",
+    "bit-4-set",
+    "bit-8-set",
+    "bit-16-set",
+    "bit-32-set",
+    "bit-64-set",
+    "bit-128-set",
+    "bit-1-clear",
+    "bit-2-clear",
+    "bit-4-clear",
+    "bit-8-clear",
+    "bit-16-clear",
+    "bit-32-clear",
+    "bit-64-clear",
+    "bit-128-clear",
+    // Sliding, overturning and bearing at equality; the prop.
+    "sliding-even",
+    "overturning-even",
+    "allowable-even",
+    "prop-idle",
+    "prop-pushes",
+    // The toe and the stem.
+    "toe-unchecked-no-toe",
+    "toe-unchecked-no-block",
+    "toe-shear-0",
+    "toe-moment-0",
+    "toe-past-contact",
+    "toe-compression-steel",
+    "stem-compression-steel",
+    "toe-steel-least",
+    "stem-steel-least",
+    "toe-steel-needed",
+    "stem-steel-needed",
+    "toe-steel-fails",
+    "stem-steel-fails",
+    "toe-steel-even",
+    "stem-steel-even",
+    "toe-arm-capped",
+    "stem-arm-capped",
+    "toe-arm-worked",
+    "stem-arm-worked",
+    "toe-shear-fails",
+    "stem-shear-fails",
+    "toe-shear-even",
+    "stem-shear-even",
+    "toe-shear-fcu-fails",
+    "stem-shear-fcu-fails",
+    "stem-shear-fcu-even",
+];
+
+/// One line: the answer's word first, then the rest in order of the alphabet.
+pub fn line(input: &[u8]) -> String {
+    let (answer, words) = of(input);
+    let mut all = vec![answer];
+    all.extend(words);
+    format!("{}\n", all.join(" "))
+}
+
+/// The answer's word, and the words of an accepted job.
+pub fn of(input: &[u8]) -> (&'static str, Words) {
+    match accept(input) {
+        Ok(job) => ("accepted", of_job(&job)),
+        Err(refusal) => (refusal_word(refusal.number), Words::new()),
+    }
+}
+
+fn refusal_word(number: u8) -> &'static str {
+    match number {
+        1 => "refused-1",
+        2 => "refused-2",
+        3 => "refused-3",
+        4 => "refused-4",
+        5 => "refused-5",
+        6 => "refused-6",
+        _ => "refused-7",
+    }
+}
+
+pub fn of_job(job: &Job) -> Words {
+    let mut words = Words::new();
+    words.insert(match job.walls.len() {
+        1 => "one-wall",
+        64 => "64-walls",
+        _ => "few-walls",
+    });
+    match job.loads.len() {
+        0 => words.insert("no-loads"),
+        512 => words.insert("512-loads"),
+        _ => false,
+    };
+    if !job.loads.is_empty() {
+        let in_turn = job
+            .loads
+            .windows(2)
+            .all(|pair| pair[0].wall <= pair[1].wall);
+        words.insert(if in_turn {
+            "loads-in-turn"
+        } else {
+            "loads-interleaved"
+        });
+    }
+    for (index, wall) in job.walls.iter().enumerate() {
+        words.extend(of_wall(wall, &job.loads_of(index + 1)));
+    }
+    words
+}
+
+pub fn of_wall(wall: &Wall, loads: &[Load]) -> Words {
+    let worked = work_wall(1, wall, loads);
+    let mut words = Words::new();
+    shape_words(&mut words, wall);
+    load_words(&mut words, wall, loads);
+    service_words(&mut words, wall, &worked);
+    factored_words(&mut words, wall, &worked);
+    failure_words(&mut words, worked.failures);
+    stability_words(&mut words, wall, &worked);
+    toe_words(&mut words, wall, &worked);
+    stem_words(&mut words, wall, &worked.stem);
+    words
+}
+
+fn either(words: &mut Words, fact: bool, yes: &'static str, no: &'static str) {
+    words.insert(if fact { yes } else { no });
+}
+
+fn note(words: &mut Words, fact: bool, word: &'static str) {
+    if fact {
+        words.insert(word);
+    }
+}
+
+fn shape_words(words: &mut Words, wall: &Wall) {
+    either(words, wall.propped, "propped", "unpropped");
+    either(words, wall.stem_thickness % 2 == 1, "odd-stem", "even-stem");
+    either(words, wall.toe == 0, "no-toe", "toe");
+    either(words, wall.heel == 0, "no-heel", "heel");
+    either(words, wall.surcharge == 0, "surcharge-0", "surcharge");
+    either(
+        words,
+        passive_depth(wall) == 0,
+        "passive-depth-0",
+        "passive-depth",
+    );
+    let water = wall.water_height;
+    words.insert(if water == 0 {
+        "water-at-0"
+    } else if water < wall.base_thickness {
+        "water-below-base-top"
+    } else if water == wall.base_thickness {
+        "water-at-base-top"
+    } else if water < wall.height() {
+        "water-above-base-top"
+    } else {
+        "water-at-crest"
+    });
+}
+
+const LOAD_COUNTS: [&str; 9] = [
+    "loads-0", "loads-1", "loads-2", "loads-3", "loads-4", "loads-5", "loads-6", "loads-7",
+    "loads-8",
+];
+
+fn load_words(words: &mut Words, wall: &Wall, loads: &[Load]) {
+    words.extend(LOAD_COUNTS.get(loads.len()));
+    for load in loads {
+        words.insert(match load.direction {
+            Direction::Down => place_down(load.position, wall.base_length()),
+            Direction::Across => place_across(load.position, wall),
+        });
+        words.insert(match (load.dead > 0, load.live > 0) {
+            (true, true) => "load-dead-and-live",
+            (true, false) => "load-dead",
+            (false, true) => "load-live",
+            (false, false) => "load-of-nothing",
+        });
+    }
+}
+
+fn place_down(position: i128, length: i128) -> &'static str {
+    if position == 0 {
+        "down-at-toe"
+    } else if position < length {
+        "down-between"
+    } else {
+        "down-at-heel"
+    }
+}
+
+fn place_across(position: i128, wall: &Wall) -> &'static str {
+    if position == 0 {
+        "across-at-0"
+    } else if position < wall.base_thickness {
+        "across-below-base-top"
+    } else if position == wall.base_thickness {
+        "across-at-base-top"
+    } else if position < wall.height() {
+        "across-above-base-top"
+    } else {
+        "across-at-crest"
+    }
+}
+
+/// The words of one case's block: whole, toe, heel, no moment, too great.
+fn bearing_word(bearing: &Bearing, names: [&'static str; 5]) -> &'static str {
+    match bearing {
+        Bearing::Given(reported) => match reported.block.kind {
+            Contact::Whole => names[0],
+            Contact::ToeTriangle => names[1],
+            Contact::HeelTriangle => names[2],
+        },
+        Bearing::NoBlock => names[3],
+        Bearing::PeakTooGreat(_) => names[4],
+    }
+}
+
+/// The words of one case's edges: M6 negative, 0, 2Rl, 4Rl, peak at limit.
+fn edge_words(
+    words: &mut Words,
+    total: &Totals,
+    l: i128,
+    bearing: &Bearing,
+    names: [&'static str; 5],
+) {
+    let [negative, nought, two, four, limit] = names;
+    note(words, total.m6 < 0, negative);
+    note(words, total.m6 == 0, nought);
+    note(words, total.m6 == 2 * total.r * l, two);
+    note(words, total.m6 == 4 * total.r * l, four);
+    let at_limit = bearing.given().is_some_and(|b| b.peak() == GREATEST_PEAK);
+    note(words, at_limit, limit);
+}
+
+fn service_words(words: &mut Words, wall: &Wall, worked: &Worked) {
+    let kinds = [
+        "service-whole",
+        "service-toe",
+        "service-heel",
+        "service-none-moment",
+        "service-none-peak",
+    ];
+    let edges = [
+        "service-m6-negative",
+        "service-m6-is-0",
+        "service-m6-is-2rl",
+        "service-m6-is-4rl",
+        "service-peak-at-limit",
+    ];
+    words.insert(bearing_word(&worked.service_bearing, kinds));
+    let l = wall.base_length();
+    edge_words(words, &worked.service, l, &worked.service_bearing, edges);
+}
+
+fn factored_words(words: &mut Words, wall: &Wall, worked: &Worked) {
+    let kinds = [
+        "factored-whole",
+        "factored-toe",
+        "factored-heel",
+        "factored-none-moment",
+        "factored-none-peak",
+    ];
+    let edges = [
+        "factored-m6-negative",
+        "factored-m6-is-0",
+        "factored-m6-is-2rl",
+        "factored-m6-is-4rl",
+        "factored-peak-at-limit",
+    ];
+    words.insert(bearing_word(&worked.factored_bearing, kinds));
+    let l = wall.base_length();
+    edge_words(words, &worked.factored, l, &worked.factored_bearing, edges);
+}
+
+const BITS_SET: [&str; 8] = [
+    "bit-1-set",
+    "bit-2-set",
+    "bit-4-set",
+    "bit-8-set",
+    "bit-16-set",
+    "bit-32-set",
+    "bit-64-set",
+    "bit-128-set",
+];
+const BITS_CLEAR: [&str; 8] = [
+    "bit-1-clear",
+    "bit-2-clear",
+    "bit-4-clear",
+    "bit-8-clear",
+    "bit-16-clear",
+    "bit-32-clear",
+    "bit-64-clear",
+    "bit-128-clear",
+];
+
+fn failure_words(words: &mut Words, failures: u8) {
+    for bit in 0..8 {
+        let set = failures >> bit & 1 == 1;
+        either(words, set, BITS_SET[bit], BITS_CLEAR[bit]);
+    }
+}
+
+fn stability_words(words: &mut Words, wall: &Wall, worked: &Worked) {
+    let total = &worked.service;
+    let even = !wall.propped && worked.passive + worked.friction == total.h;
+    note(words, even, "sliding-even");
+    note(words, total.mrest == total.mot, "overturning-even");
+    let (toe, heel) = worked.service_bearing.pressures();
+    let at_allowable = toe.max(heel) == 1000 * wall.allowable;
+    note(words, at_allowable, "allowable-even");
+    if wall.propped {
+        either(words, worked.prop > 0, "prop-pushes", "prop-idle");
+    }
+}
+
+fn toe_words(words: &mut Words, wall: &Wall, worked: &Worked) {
+    let (Some(toe), Some(bearing)) = (&worked.toe, worked.factored_bearing.given()) else {
+        either(
+            words,
+            wall.toe == 0,
+            "toe-unchecked-no-toe",
+            "toe-unchecked-no-block",
+        );
+        return;
+    };
+    note(words, toe.effects.shear == 0, "toe-shear-0");
+    note(words, toe.effects.moment == 0, "toe-moment-0");
+    let middle = 2 * wall.toe + wall.stem_thickness;
+    let past = pressure_at(bearing, wall.base_length(), middle) == 0;
+    note(words, past && bearing.toe > 0, "toe-past-contact");
+    let names = [
+        "toe-compression-steel",
+        "toe-steel-least",
+        "toe-steel-needed",
+        "toe-steel-fails",
+        "toe-steel-even",
+        "toe-arm-capped",
+        "toe-arm-worked",
+    ];
+    steel_words(words, toe, names);
+    let stress = wall.toe_bars.concrete_shear_stress;
+    let (d, twice) = (toe.twice_depth, 2 * toe.effects.shear);
+    note(words, toe.shear_fails, "toe-shear-fails");
+    note(words, twice == stress * d, "toe-shear-even");
+    let by_fcu = twice < stress * d && !shear_passes(toe.effects.shear, d, stress, wall.fcu);
+    note(words, by_fcu, "toe-shear-fcu-fails");
+}
+
+fn stem_words(words: &mut Words, wall: &Wall, stem: &Section) {
+    let names = [
+        "stem-compression-steel",
+        "stem-steel-least",
+        "stem-steel-needed",
+        "stem-steel-fails",
+        "stem-steel-even",
+        "stem-arm-capped",
+        "stem-arm-worked",
+    ];
+    steel_words(words, stem, names);
+    let stress = wall.stem_bars.concrete_shear_stress;
+    let (d, twice) = (stem.twice_depth, 2 * stem.effects.shear);
+    note(words, stem.shear_fails, "stem-shear-fails");
+    note(words, twice == stress * d, "stem-shear-even");
+    let by_fcu = twice < stress * d && !shear_passes(stem.effects.shear, d, stress, wall.fcu);
+    note(words, by_fcu, "stem-shear-fcu-fails");
+    let fcu_even = 100 * twice * twice == 64 * wall.fcu * 1_000_000 * d * d;
+    note(words, fcu_even && !stem.shear_fails, "stem-shear-fcu-even");
+}
+
+/// The words of a section's steel: compression, least, needed, fails, even,
+/// arm capped, arm worked.
+fn steel_words(words: &mut Words, section: &Section, names: [&'static str; 7]) {
+    let [compression, least, needed, fails, even, capped, worked] = names;
+    note(words, section.steel_fails, fails);
+    let Some(arm) = section.lever_arm else {
+        words.insert(compression);
+        return;
+    };
+    either(words, section.needed > section.least, needed, least);
+    note(words, section.provided == section.required, even);
+    either(words, arm == 19 * section.twice_depth / 20, capped, worked);
+}

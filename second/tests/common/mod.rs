@@ -1,0 +1,61 @@
+//! What several tests share. Each test takes what it needs of it.
+#![allow(dead_code)]
+
+use second::generator::draft::Draft;
+use second::generator::{sample, Due, Sample, KINDS};
+use second::job_file::{Job, RawWall, Wall};
+
+pub const SEED: u64 = 20;
+
+/// Case A of document 01, "The sheet line", field by field.
+pub const CASE_A: RawWall = [
+    0, 3000, 300, 500, 1500, 300, 0, 0, 0, 2400, 2400, 1800, 2000, 1800, 333, 500, 3000, 500, 150,
+    1000, 35, 500, 13, 40, 12, 200, 40, 16, 150, 550, 550,
+];
+
+pub const CASE_A_LINE: &str =
+    "1 00 134160 43627 0 767102100 88312 28349 173078 0 71688 30840740 390 80700 92700000 892\n";
+
+/// The 136 bytes of case A, from the header document 01 prints.
+pub fn case_a_bytes() -> Vec<u8> {
+    let header: [u16; 6] = [1, 1, 12, 0, 136, 136];
+    let mut bytes: Vec<u8> = header.iter().flat_map(|n| n.to_le_bytes()).collect();
+    bytes.extend(CASE_A.iter().flat_map(|n| n.to_le_bytes()));
+    assert_eq!(bytes.len(), 136);
+    bytes
+}
+
+pub fn case_a() -> Wall {
+    Wall::from_raw(&CASE_A)
+}
+
+pub fn case_a_draft() -> Draft {
+    Draft::of(CASE_A)
+}
+
+/// So many samples of every kind.
+pub fn samples_of_each_kind(count: usize) -> Vec<(String, Sample)> {
+    let mut all = Vec::new();
+    for (kind, (name, _)) in KINDS.iter().enumerate() {
+        for index in 0..count {
+            all.push((format!("{name}-{}", index + 1), sample(SEED, kind, index)));
+        }
+    }
+    all
+}
+
+/// The accepted jobs among them.
+pub fn accepted_jobs(count: usize) -> Vec<(String, Job)> {
+    let samples = samples_of_each_kind(count);
+    let jobs: Vec<(String, Job)> = samples
+        .into_iter()
+        .filter(|(_, sample)| sample.due == Due::Accepted)
+        .map(|(name, sample)| {
+            let job = second::answers::accept(&sample.bytes);
+            let job = job.unwrap_or_else(|refusal| panic!("{name}: {refusal}"));
+            (name, job)
+        })
+        .collect();
+    assert!(jobs.len() > 10 * count, "only {} jobs accepted", jobs.len());
+    jobs
+}

@@ -1,0 +1,206 @@
+//! P1 to P10 of document 01, "Figures to hold it to", and rules beside them.
+
+mod common;
+
+use common::{accepted_jobs, case_a, case_a_bytes, case_a_draft, CASE_A_LINE};
+use second::bearing::{block, Bearing, Case, Contact, Fraction};
+use second::forces::{passive_depth, passive_force, pushes};
+use second::job_file::field;
+use second::section::{needed_steel, provided_steel, shear_passes, twice_lever_arm};
+use second::sheet_line::{work_job, NO_SERVICE_BLOCK, OVER_ALLOWABLE, SHEAR, TOE_STEEL};
+
+#[test]
+fn p1_case_a_from_bytes_to_line() {
+    assert_eq!(second::sheet(&case_a_bytes()), CASE_A_LINE);
+    assert_eq!(case_a_draft().bytes(), case_a_bytes());
+}
+
+#[test]
+fn p2_lever_arm_and_needed_steel() {
+    assert_eq!(twice_lever_arm(232_500_000, 585, 35), Some(529));
+    assert_eq!(needed_steel(232_500_000, 500, 529), 2021);
+}
+
+#[test]
+fn p3_provided_steel() {
+    assert_eq!(provided_steel(25, 175), 2804);
+    assert_eq!(provided_steel(12, 200), 565);
+}
+
+#[test]
+fn p4_no_passive_force_once_dug_away() {
+    let mut wall = case_a();
+    wall.cover_in_front = 0;
+    wall.base_thickness = 300;
+    wall.excavation = 400;
+    assert_eq!(passive_depth(&wall), 0);
+    assert_eq!(passive_force(&wall), 0);
+    wall.excavation = 0;
+    // 3 x 18000 N/m3 x 0.3^2 / 2
+    assert_eq!(passive_force(&wall), 2430);
+}
+
+fn service(m6: i128) -> Bearing {
+    Bearing::of(600, m6, 3000, Case::Service)
+}
+
+#[test]
+fn p5_whole_contact_at_two_rl() {
+    let bearing = service(3_600_000);
+    assert_eq!(bearing.pressures(), (400, 0));
+    assert_eq!(bearing.given().unwrap().block.kind, Contact::Whole);
+}
+
+#[test]
+fn p6_toe_triangle_just_below_two_rl() {
+    let bearing = service(3_599_999);
+    assert_eq!(bearing.pressures(), (401, 0));
+    let block = bearing.given().unwrap().block;
+    assert_eq!(block.kind, Contact::ToeTriangle);
+    assert_eq!((block.contact.over, block.contact.under), (3_599_999, 1200));
+}
+
+#[test]
+fn p7_whole_contact_at_four_rl() {
+    let bearing = service(7_200_000);
+    assert_eq!(bearing.pressures(), (0, 400));
+    assert_eq!(bearing.given().unwrap().block.kind, Contact::Whole);
+}
+
+#[test]
+fn p8_no_block_at_nought() {
+    assert_eq!(block(600, 0, 3000), None);
+    assert_eq!(service(0).pressures(), (0, 0));
+    assert!(block(600, 1, 3000).is_some());
+}
+
+#[test]
+fn p9_greatest_moment_without_compression_steel() {
+    assert_eq!(twice_lever_arm(352_257_360, 508, 35), Some(394));
+    assert_eq!(twice_lever_arm(352_257_361, 508, 35), None);
+}
+
+#[test]
+fn p10_moist_push_of_case_a() {
+    let wall = case_a();
+    let moist = pushes(&wall, wall.ka, wall.height(), wall.water_height)[1];
+    assert_eq!(moist.horizontal, 32_638);
+}
+
+#[test]
+fn a_heel_triangle_mirrors_a_toe_triangle() {
+    let toe = service(3_000_000);
+    let heel = service(6 * 600 * 3000 - 3_000_000);
+    let (peak, nought) = toe.pressures();
+    assert_eq!(heel.pressures(), (nought, peak));
+    assert_eq!(peak, 480);
+    let contact = heel.given().unwrap().block.contact;
+    assert_eq!(
+        contact,
+        Fraction {
+            over: 2500,
+            under: 1
+        }
+    );
+}
+
+#[test]
+fn a_peak_of_two_million_is_given_and_one_more_is_not() {
+    // 1000 x 4R^2 / M6 with R 500000 is 2000000 at M6 500000000.
+    let at = |m6| Bearing::of(500_000, m6, 3000, Case::Service);
+    assert_eq!(at(500_000_000).pressures(), (2_000_000, 0));
+    assert_eq!(at(499_999_999).pressures(), (0, 0));
+    // Factored figures are tenths: the same pressure, a tenth of the scale.
+    let factored = |m6| Bearing::of(5_000_000, m6, 3000, Case::Factored);
+    assert_eq!(factored(5_000_000_000).pressures(), (2_000_000, 0));
+    assert_eq!(factored(4_999_999_999).pressures(), (0, 0));
+}
+
+#[test]
+fn shear_limits_at_equality() {
+    // 2V = 550 x 400: the first limit is strict.
+    assert!(!shear_passes(110_000, 400, 550, 35));
+    assert!(shear_passes(109_999, 400, 550, 35));
+    // 0.8 root 25 = 4 N/mm2: equality passes.
+    assert!(shear_passes(800_000, 400, 5000, 25));
+    assert!(!shear_passes(800_001, 400, 5000, 25));
+}
+
+/// Worked apart from this program, in metres with fractions: a propped wall of
+/// odd thickness with water above its base and loads of every direction.
+#[test]
+fn a_wet_loaded_wall() {
+    let mut draft = case_a_draft();
+    let wall = &mut draft.walls[0];
+    wall[field::KIND] = 1;
+    wall[field::STEM_THICKNESS] = 351;
+    wall[field::WATER_HEIGHT] = 1234;
+    wall[field::COVER_IN_FRONT] = 150;
+    wall[field::EXCAVATION] = 75;
+    wall[field::TANGENT] = 200;
+    draft.loads = vec![
+        [1, 0, 777, 12_345, 6789],
+        [1, 1, 299, 1111, 0],
+        [1, 1, 300, 0, 2222],
+        [1, 1, 3300, 333, 444],
+        [1, 0, 2351, 1, 5000],
+    ];
+    assert_eq!(second::sheet(&draft.bytes()), WET_LINE);
+}
+
+const WET_LINE: &str = "1 00 165136 53228 21763 971516655 105193 35289 194408 6825 82191 37955588 390 89040 97353804 779\n";
+
+#[test]
+fn without_a_toe_or_a_factored_block_no_toe_check_is_made() {
+    let mut seen = 0;
+    for (name, job) in accepted_jobs(40) {
+        for (wall, worked) in job.walls.iter().zip(work_job(&job)) {
+            if wall.toe > 0 && worked.factored_bearing.given().is_some() {
+                continue;
+            }
+            seen += 1;
+            assert_eq!(worked.numbers()[10..13], [0; 3], "{name}");
+            assert_eq!(worked.failures & TOE_STEEL, 0, "{name}");
+            let shear = worked.failures & SHEAR != 0;
+            assert_eq!(shear, worked.stem.shear_fails, "{name}");
+        }
+    }
+    assert!(seen > 100);
+}
+
+#[test]
+fn with_no_service_block_no_pressure_is_over_allowable() {
+    let mut seen = 0;
+    for (name, job) in accepted_jobs(40) {
+        for worked in work_job(&job) {
+            if worked.failures & NO_SERVICE_BLOCK != 0 {
+                seen += 1;
+                assert_eq!(worked.numbers()[6..8], [0; 2], "{name}");
+                assert_eq!(worked.failures & OVER_ALLOWABLE, 0, "{name}");
+            }
+        }
+    }
+    assert!(seen > 50);
+}
+
+/// Z is looked for from above; here it is held to its three limits and to
+/// being the greatest.
+#[test]
+fn the_lever_arm_is_the_greatest_within_its_limits() {
+    let mut arms = 0;
+    for (name, job) in accepted_jobs(20) {
+        for (wall, worked) in job.walls.iter().zip(work_job(&job)) {
+            let (m, d) = (worked.stem.effects.moment, worked.stem.twice_depth);
+            let fits =
+                |z: i128| 20 * z <= 19 * d && 2 * z >= d && m <= 225 * wall.fcu * z * (d - z);
+            let Some(z) = worked.stem.lever_arm else {
+                assert!(m > 39 * wall.fcu * d * d, "{name}");
+                continue;
+            };
+            arms += 1;
+            assert!(fits(z), "{name}");
+            assert!((z + 1..=d).all(|greater| !fits(greater)), "{name}");
+        }
+    }
+    assert!(arms > 100);
+}

@@ -1,0 +1,77 @@
+//! The program itself: standard input to standard output.
+
+mod common;
+
+use common::{case_a_bytes, case_a_draft, CASE_A_LINE};
+use std::io::Write;
+use std::process::{Command, Stdio};
+
+fn run(arguments: &[&str], input: &[u8]) -> (String, Option<i32>) {
+    let mut child = Command::new(env!("CARGO_BIN_EXE_second"))
+        .args(arguments)
+        .stdin(Stdio::piped())
+        .stdout(Stdio::piped())
+        .stderr(Stdio::null())
+        .spawn()
+        .unwrap();
+    let mut pipe = child.stdin.take().unwrap();
+    let input = input.to_vec();
+    let writer = std::thread::spawn(move || pipe.write_all(&input));
+    let output = child.wait_with_output().unwrap();
+    // A program that refuses its arguments need not read its input.
+    let _ = writer.join().unwrap();
+    (
+        String::from_utf8(output.stdout).unwrap(),
+        output.status.code(),
+    )
+}
+
+#[test]
+fn the_sheet_of_case_a_and_of_two_walls() {
+    assert_eq!(run(&[], &case_a_bytes()), (CASE_A_LINE.into(), Some(0)));
+    let mut draft = case_a_draft();
+    draft.walls.push(draft.walls[0]);
+    draft.loads.push([2, 1, 0, 1, 0]);
+    let second_line = CASE_A_LINE
+        .replacen("1 00", "2 00", 1)
+        .replacen(" 43627 ", " 43628 ", 1);
+    let (printed, _) = run(&[], &draft.bytes());
+    assert_eq!(printed, format!("{CASE_A_LINE}{second_line}"));
+}
+
+#[test]
+fn refusals_are_printed_alone() {
+    assert_eq!(run(&[], &[]), ("refused 1 0\n".into(), Some(0)));
+    let mut draft = case_a_draft();
+    draft.loads.push([1, 0, 2301, 0, 0]);
+    assert_eq!(run(&[], &draft.bytes()).0, "refused 6 1\n");
+    assert_eq!(run(&["draw", "1"], &draft.bytes()).0, "refused 6 1\n");
+    assert_eq!(run(&["draw", "0"], &case_a_bytes()).0, "refused 18 0\n");
+}
+
+#[test]
+fn an_input_past_all_bounds_is_refused() {
+    let mut long = case_a_bytes();
+    long.resize(3_000_000, 1);
+    assert_eq!(run(&[], &long).0, "refused 4 0\n");
+    // Right when its length is cut to 16 bits.
+    long.resize(65_536 + 136, 1);
+    assert_eq!(run(&[], &long).0, "refused 4 0\n");
+}
+
+#[test]
+fn drawings_and_traits_are_one_line() {
+    let (drawn, _) = run(&["draw", "1"], &case_a_bytes());
+    assert_eq!(drawn, second::drawing_line(&case_a_bytes(), 1));
+    assert!(drawn.starts_with("whole 4060c51eb851eb85 "));
+    let (traits, _) = run(&["traits"], &case_a_bytes());
+    assert!(traits.starts_with("accepted "));
+    assert_eq!(traits.lines().count(), 1);
+}
+
+#[test]
+fn other_arguments_are_turned_away() {
+    for arguments in [&["draw"][..], &["draw", "x"], &["draw", "-1"], &["sheet"]] {
+        assert_eq!(run(arguments, &case_a_bytes()), (String::new(), Some(2)));
+    }
+}

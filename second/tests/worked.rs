@@ -1,0 +1,78 @@
+//! Walls whose lines were worked apart from this program (`worked.txt`), many
+//! of them with a figure just at the edge of a rule.
+
+use second::generator::draft::Draft;
+use second::traits::of;
+use std::collections::BTreeSet;
+
+const WORKED: &str = include_str!("worked.txt");
+
+fn numbers(text: &str) -> Vec<u32> {
+    text.split_whitespace()
+        .map(|word| word.parse().unwrap())
+        .collect()
+}
+
+/// The job of a row, and its line.
+fn read_row(row: &str) -> (Draft, &str) {
+    let parts: Vec<&str> = row.split("; ").collect();
+    let [fields, loads, line] = parts[..] else {
+        panic!("{row}");
+    };
+    let mut draft = Draft::of(numbers(fields).try_into().unwrap());
+    for load in loads.split(", ").filter(|load| !load.is_empty()) {
+        let rest: [u32; 4] = numbers(load).try_into().unwrap();
+        draft.loads.push([1, rest[0], rest[1], rest[2], rest[3]]);
+    }
+    (draft, line)
+}
+
+fn rows() -> impl Iterator<Item = (Draft, &'static str)> {
+    let lines = WORKED.lines().filter(|line| !line.starts_with('#'));
+    lines.map(read_row)
+}
+
+#[test]
+fn every_row_prints_its_line() {
+    let mut count = 0;
+    for (draft, line) in rows() {
+        assert_eq!(second::sheet(&draft.bytes()), format!("{line}\n"));
+        count += 1;
+    }
+    assert!(count > 150, "{count}");
+}
+
+/// The rows stand on the edges they were chosen for.
+#[test]
+fn the_rows_meet_every_edge() {
+    let met: BTreeSet<&str> = rows().flat_map(|(draft, _)| of(&draft.bytes()).1).collect();
+    for word in [
+        "sliding-even",
+        "overturning-even",
+        "allowable-even",
+        "toe-steel-even",
+        "stem-steel-even",
+        "toe-shear-even",
+        "stem-shear-even",
+        "stem-shear-fcu-even",
+        "service-m6-is-0",
+        "service-m6-is-2rl",
+        "service-m6-is-4rl",
+        "service-peak-at-limit",
+        "factored-m6-is-0",
+        "factored-m6-is-2rl",
+        "factored-m6-is-4rl",
+        "factored-peak-at-limit",
+        "toe-past-contact",
+        "toe-shear-0",
+        "toe-moment-0",
+        "toe-compression-steel",
+        "stem-compression-steel",
+        "service-heel",
+        "factored-heel",
+        "service-none-peak",
+        "factored-none-peak",
+    ] {
+        assert!(met.contains(word), "{word}");
+    }
+}
