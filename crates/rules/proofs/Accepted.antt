@@ -1,12 +1,13 @@
--- What acceptance tells of a wall: every field lies in its range. One law serves all fields, since the ranges stand in a table.
-use mathlib.Core.Path.{_≡_, sym, subst}
+-- What it tells of a wall that its fields fit: each of the 31 lies in its range. One law serves all of them, since the ranges stand in a table.
+use mathlib.Core.Path.{_≡_, refl, sym, subst}
 use mathlib.Core.Bool.{Bool, true, false, _&&_, _||_, cond}
 use mathlib.Core.List.{List, [], _∷_}
 use Prim.Native.Nat.{ℕ, zero, suc, _+_, _-_, _≤_, _<_}
 use native.Mathlib.Omega.{arith}
 use lib.Dec.{T, leb, eqb, leb→le, eqb→eq}
 use lib.ListN.{length, getD}
-use Rattle.rules.specs.JobFile.{Wall, Range, between, aBar, bars, among, within, wallHeight, waterHeight, field, ranges, firstOutside, firstBadField, wallFits}
+use Rattle.rules.specs.JobFile.{Wall, wallFields, Range, between, aBar, bars, among, within, wallHeight, waterHeight, field, ranges, firstOutside, firstBadField, wallFits}
+use Rattle.rules.specs.ToeAndStem.{barAreas}
 
 -- ---- tests
 
@@ -30,7 +31,7 @@ among-has p n (m ∷ ms) all t =
     let h = both (p m) (every p ms) all in
     either (eqb n m) (among n ms) t (λ e. subst (λ (k : ℕ). T (p k)) (sym (eqb→eq n m e)) (h .0)) (among-has p n ms (h .1))
 
--- ---- every field of an accepted wall
+-- ---- every field of a wall that fits
 
 passed : (b : Bool) (rest number : ℕ) → cond b rest (suc number) ≡ 0 → T b × (rest ≡ 0)
 passed true rest number e = (tt, e)
@@ -49,13 +50,13 @@ inside wall number (r ∷ rs) e (suc i) h =
     rw k at (inside wall (suc number) rs (passed (within wall r (field wall (suc number))) _ number e .1) i (omega arith))
 
 -- the field at an index, which is its number less 1
-pub field-within : (wall : Wall) → T (wallFits wall) → (i : ℕ) → i < length ranges → T (within wall (getD ranges i aBar) (getD wall i 0))
+pub field-within : (wall : Wall) → T (wallFits wall) → (i : ℕ) → i < wallFields → T (within wall (getD ranges i aBar) (getD wall i 0))
 unfolding wallFits firstBadField
 field-within wall fits i h =
     let k : 0 + i ≡ i = omega arith in rw k at (inside wall 0 ranges (eqb→eq (firstBadField wall) 0 fits) i h)
 
 -- a field with two bounds, which the table of ranges gives
-pub field-between : (wall : Wall) → T (wallFits wall) → (i low high : ℕ) → i < length ranges → getD ranges i aBar ≡ between low high
+pub field-between : (wall : Wall) → T (wallFits wall) → (i low high : ℕ) → i < wallFields → getD ranges i aBar ≡ between low high
     → (low ≤ getD wall i 0) × (getD wall i 0 ≤ high)
 unfolding within
 field-between wall fits i low high h e =
@@ -64,12 +65,16 @@ field-between wall fits i low high h e =
     (leb→le low (getD wall i 0) (k .0), leb→le (getD wall i 0) high (k .1))
 
 -- a bar has one of the diameters, and so at most 40
-pub field-bar : (wall : Wall) → T (wallFits wall) → (i : ℕ) → i < length ranges → getD ranges i aBar ≡ aBar → T (among (getD wall i 0) bars)
+pub field-bar : (wall : Wall) → T (wallFits wall) → (i : ℕ) → i < wallFields → getD ranges i aBar ≡ aBar → T (among (getD wall i 0) bars)
 unfolding within
 field-bar wall fits i h e = rw e at (field-within wall fits i h)
 
 pub bar-most : (bar : ℕ) → T (among bar bars) → bar ≤ 40
 bar-most bar t = leb→le bar 40 (among-has (λ n. leb n 40) bar bars tt t)
+
+-- each diameter has an area
+pub areas-for-bars : length barAreas ≡ length bars
+areas-for-bars = refl
 
 -- the water stands no higher than the wall
 pub water-below : (wall : Wall) → T (wallFits wall) → waterHeight wall ≤ wallHeight wall

@@ -58,20 +58,20 @@ offsetsAndLengthFit file =
     && eqb (wholeLength file) (entriesAt file + entryBytes * loadCount file)
     && eqb (wholeLength file) (length file)
 
--- ---- 5: walls in file order, the first of them with a number
+-- ---- 5: walls in file order, the first of them number n
 
 unfoldable pub firstBadWall : ℕ → List Wall → Answer
-firstBadWall number [] = Worked
-firstBadWall number (wall ∷ rest) = refusedIf (not (wallFits wall)) (WallOutOfRange number) orElse firstBadWall (suc number) rest
+firstBadWall n [] = Worked
+firstBadWall n (wall ∷ rest) = refusedIf (not (wallFits wall)) (WallOutOfRange n) orElse firstBadWall (suc n) rest
 
--- ---- 6 and 7: loads in file order, the first of them with a number, behind those that were passed
+-- ---- 6 and 7: loads in file order, the first of them number n, behind those that were passed
 
 abbrev pub isThere : ℕ → List Wall → Bool
-isThere number there = leb 1 number && leb number (length there)
+isThere n there = leb 1 n && leb n (length there)
 
--- the wall with a number, from 1
+-- wall number n, from 1
 abbrev pub numbered : ℕ → List Wall → Wall
-numbered number there = getD there (number - 1) []
+numbered n there = getD there (n - 1) []
 
 unfoldable pub entryFits : List Wall → Entry → Bool
 entryFits there entry = isThere (wallOf entry) there && loadFits (numbered (wallOf entry) there) (loadOf entry)
@@ -81,11 +81,11 @@ unfoldable pub isOneMore : List Entry → Entry → Bool
 isOneMore passed entry = leb mostLoadsOnWall (length (loadsOn (wallOf entry) passed))
 
 unfoldable pub firstBadLoad : List Wall → List Entry → ℕ → List Entry → Answer
-firstBadLoad there passed number [] = Worked
-firstBadLoad there passed number (entry ∷ rest) =
-    refusedIf (not (entryFits there entry)) (LoadOutOfRange number)
-    orElse refusedIf (isOneMore passed entry) (NinthLoad number)
-    orElse firstBadLoad there (passed ++ entry ∷ []) (suc number) rest
+firstBadLoad there passed n [] = Worked
+firstBadLoad there passed n (entry ∷ rest) =
+    refusedIf (not (entryFits there entry)) (LoadOutOfRange n)
+    orElse refusedIf (isOneMore passed entry) (NinthLoad n)
+    orElse firstBadLoad there (passed ++ entry ∷ []) (suc n) rest
 
 -- ---- 1 to 7, in order
 

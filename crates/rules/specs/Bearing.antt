@@ -1,5 +1,5 @@
 -- Document 01, "The bearing block": straight-line blocks and what they carry, the one that R, M6 and l make, and the pressures that are reported.
--- Pressures are in kN/m2 and, of a factored block, in tenths of a kN/m2. Blocks are compared multiplied out.
+-- N over mm, on a metre's run, is kN/m2, so R over l needs no scale: pressures are in kN/m2 or, where R is in tenths of a newton, in tenths of that. Contacts are in mm.
 use Prim.Native.Nat.{ℕ, _*_, max}
 use mathlib.Core.Path.{_≡_}
 use mathlib.Core.Bool.{Bool, true, false, _&&_, cond}
@@ -24,9 +24,8 @@ infix 5 _over_
 abbrev pub _over_ : ℤ → ℤ → Fraction
 a over b = record { over = a; under = b }
 
--- over 1
-abbrev pub whole : ℤ → Fraction
-whole a = a over pos 1
+abbrev pub overOne : ℤ → Fraction
+overOne a = a over pos 1
 
 abbrev pub plus : Fraction → Fraction → Fraction
 plus a b = a .over *ℤ b .under +ℤ b .over *ℤ a .under over a .under *ℤ b .under
@@ -49,24 +48,23 @@ pub record Proper (b : Block) : Type 0 where
   pub heel : pos 0 <ℤ b .heel .under
   pub contact : pos 0 <ℤ b .contact .under
 
--- over all of l, with neither end below 0
+-- it lies under all of l, and neither end is negative
 pub record FullBlock (l : ℤ) (b : Block) : Type 0 where
   pub toe : pos 0 ≤ℤ b .toe .over
   pub heel : pos 0 ≤ℤ b .heel .over
-  pub contact : Same (b .contact) (whole l)
+  pub contact : Same (b .contact) (overOne l)
 
--- a triangle from one end, which falls to 0 at a contact above 0 and less than l
-pub record Triangle (l : ℤ) (near far contact : Fraction) : Type 0 where
-  pub peak : pos 0 <ℤ near .over
-  pub falls : Same far (whole (pos 0))
+-- it starts at one end and has fallen to 0 where the contact ends, short of the far end. What it carries tells the sign of its peak.
+pub record Triangle (l : ℤ) (far contact : Fraction) : Type 0 where
+  pub falls : Same far (overOne (pos 0))
   pub some : pos 0 <ℤ contact .over
   pub short : contact .over <ℤ (l *ℤ contact .under)
 
 -- what it takes to be of a kind; no straight-line block is of none
 abbrev pub HasKind : Kind → ℤ → Block → Type 0
 HasKind Full l b = FullBlock l b
-HasKind FromToe l b = Triangle l (b .toe) (b .heel) (b .contact)
-HasKind FromHeel l b = Triangle l (b .heel) (b .toe) (b .contact)
+HasKind FromToe l b = Triangle l (b .heel) (b .contact)
+HasKind FromHeel l b = Triangle l (b .toe) (b .contact)
 HasKind NoBlock l b = ⊥
 
 pub record StraightLine (l : ℤ) (b : Block) : Type 0 where
@@ -78,13 +76,16 @@ abbrev pub carried : Block → Fraction
 carried b = times (times (plus (b .toe) (b .heel)) (b .contact)) (pos 1 over pos 2)
 
 -- six times its moment about the toe
-abbrev pub sixMoments : Kind → ℤ → Block → Fraction
-sixMoments Full l b = times (plus (b .toe) (times (whole (pos 2)) (b .heel))) (whole (l *ℤ l))
-sixMoments FromToe l b = times (b .toe) (times (b .contact) (b .contact))
-sixMoments FromHeel l b = times (times (b .heel) (b .contact)) (minus (whole (pos 3 *ℤ l)) (b .contact))
-sixMoments NoBlock l b = whole (pos 0)
+abbrev pub sixMomentsAs : Kind → ℤ → Block → Fraction
+sixMomentsAs Full l b = times (plus (b .toe) (times (overOne (pos 2)) (b .heel))) (overOne (l *ℤ l))
+sixMomentsAs FromToe l b = times (b .toe) (times (b .contact) (b .contact))
+sixMomentsAs FromHeel l b = times (times (b .heel) (b .contact)) (minus (overOne (pos 3 *ℤ l)) (b .contact))
+sixMomentsAs NoBlock l b = overOne (pos 0)
 
--- the same kind, with equal fractions
+abbrev pub sixMoments : ℤ → Block → Fraction
+sixMoments l b = sixMomentsAs (b .kind) l b
+
+-- of one kind, with equal fractions
 pub record SameBlock (a b : Block) : Type 0 where
   pub kind : a .kind ≡ b .kind
   pub toe : Same (a .toe) (b .toe)
@@ -92,6 +93,9 @@ pub record SameBlock (a b : Block) : Type 0 where
   pub contact : Same (a .contact) (b .contact)
 
 -- ---- the block that R and M6 make on a base of length l
+
+unfoldable pub isNone : ℤ → Bool
+isNone M6 = leZ M6 (pos 0)
 
 unfoldable pub isFull : ℤ → ℤ → ℤ → Bool
 isFull R M6 l = leZ (pos 2 *ℤ R *ℤ l) M6 && leZ M6 (pos 4 *ℤ R *ℤ l)
@@ -102,18 +106,21 @@ isFromToe R M6 l = ltZ (pos 0) M6 && ltZ M6 (pos 2 *ℤ R *ℤ l)
 unfoldable pub isFromHeel : ℤ → ℤ → ℤ → Bool
 isFromHeel R M6 l = ltZ (pos 4 *ℤ R *ℤ l) M6
 
+-- no block goes first, so that nothing is made of totals that are 0
 unfoldable pub kindOf : ℤ → ℤ → ℤ → Kind
-kindOf R M6 l = cond (isFull R M6 l) Full (cond (isFromToe R M6 l) FromToe (cond (isFromHeel R M6 l) FromHeel NoBlock))
+kindOf R M6 l =
+    cond (isNone M6) NoBlock
+    (cond (isFull R M6 l) Full (cond (isFromToe R M6 l) FromToe (cond (isFromHeel R M6 l) FromHeel NoBlock)))
 
 unfoldable pub ofKind : Kind → ℤ → ℤ → ℤ → Block
 ofKind Full R M6 l =
-    record { kind = Full; toe = pos 4 *ℤ R *ℤ l -ℤ M6 over l *ℤ l; heel = M6 -ℤ pos 2 *ℤ R *ℤ l over l *ℤ l; contact = whole l }
+    record { kind = Full; toe = pos 4 *ℤ R *ℤ l -ℤ M6 over l *ℤ l; heel = M6 -ℤ pos 2 *ℤ R *ℤ l over l *ℤ l; contact = overOne l }
 ofKind FromToe R M6 l =
-    record { kind = FromToe; toe = pos 4 *ℤ R *ℤ R over M6; heel = whole (pos 0); contact = M6 over pos 2 *ℤ R }
+    record { kind = FromToe; toe = pos 4 *ℤ R *ℤ R over M6; heel = overOne (pos 0); contact = M6 over pos 2 *ℤ R }
 ofKind FromHeel R M6 l =
     let N = pos 6 *ℤ R *ℤ l -ℤ M6 in
-    record { kind = FromHeel; toe = whole (pos 0); heel = pos 4 *ℤ R *ℤ R over N; contact = N over pos 2 *ℤ R }
-ofKind NoBlock R M6 l = record { kind = NoBlock; toe = whole (pos 0); heel = whole (pos 0); contact = whole (pos 0) }
+    record { kind = FromHeel; toe = overOne (pos 0); heel = pos 4 *ℤ R *ℤ R over N; contact = N over pos 2 *ℤ R }
+ofKind NoBlock R M6 l = record { kind = NoBlock; toe = overOne (pos 0); heel = overOne (pos 0); contact = overOne (pos 0) }
 
 unfoldable pub blockOf : ℤ → ℤ → ℤ → Block
 blockOf R M6 l = ofKind (kindOf R M6 l) R M6 l
@@ -134,7 +141,7 @@ reported scale pressure = roundedUp (scale * aboveZero (pressure .over)) (aboveZ
 unfoldable pub peak : ℕ → Block → ℕ
 peak scale b = max (reported scale (b .toe)) (reported scale (b .heel))
 
--- a block whose reported peak exceeds 2000000 N/m2 isn't given
+-- not given where it reports more than 2000000 N/m2
 unfoldable pub given : ℕ → Block → Block
 given scale b = cond (leb (peak scale b) 2000000) b (ofKind NoBlock (pos 0) (pos 0) (pos 0))
 

@@ -1,5 +1,5 @@
 -- Document 01, "The bearing block", its last paragraph: the service block for the drawing office, from a job file and a wall's number.
--- Each figure is one IEEE division of two whole numbers.
+-- Each figure is one division of two whole numbers in IEEE 754's binary64: `ofInt` makes a double of each, and `div` rounds their quotient once.
 use Prim.Native.Nat.{ℕ}
 use mathlib.Core.Path.{_≡_}
 use mathlib.Core.Bool.{not, cond}
@@ -52,22 +52,23 @@ shapeOf b = shapeBy (b .kind) b
 -- ---- what is answered: 1 to 7, and then 18
 
 unfoldable pub answerToDrawing : File → ℕ → Answer
-answerToDrawing file number = firstRefusal file orElse refusedIf (not (isThere number (walls file))) (NoSuchWall number)
+answerToDrawing file n = firstRefusal file orElse refusedIf (not (isThere n (walls file))) (NoSuchWall n)
 
 unfoldable pub drawn : File → ℕ → Drawn
-drawn file number =
-    let wall = numbered number (walls file) in
-    let its = loadsOn number (entries file) in
-    record { answer = answerToDrawing file number; drawing = drawingOf (service wall its); shape = shapeOf (serviceBlock wall its) }
+drawn file n =
+    let wall = numbered n (walls file) in
+    let its = loadsOn n (entries file) in
+    record { answer = answerToDrawing file n; drawing = drawingOf (service wall its); shape = shapeOf (serviceBlock wall its) }
 
--- a refusal gives every figure 0, and the shape nothing
+-- of a refusal: no shape, and 0 for each figure
 unfoldable pub undrawn : Answer → Drawn
 undrawn answer =
     let none = ofInt binary64 (pos 0) in
     record { answer = answer; drawing = record { vertical = none; horizontal = none; distance = none }; shape = Nothing }
 
 unfoldable pub drawingFor : File → ℕ → Drawn
-drawingFor file number = cond (isWorked (answerToDrawing file number)) (drawn file number) (undrawn (answerToDrawing file number))
+drawingFor file n = cond (isWorked (answerToDrawing file n)) (drawn file n) (undrawn (answerToDrawing file n))
 
-pub record Draws (file : File) (number : ℕ) (answer : Drawn) : Type 0 where
-  pub answered : answer ≡ drawingFor file number
+-- what is answered where wall n is to be drawn
+pub record Draws (file : File) (n : ℕ) (answer : Drawn) : Type 0 where
+  pub answered : answer ≡ drawingFor file n

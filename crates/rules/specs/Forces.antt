@@ -167,16 +167,16 @@ overturns liveWeight = pos 0
 overturns deadPush = pos 1
 overturns livePush = pos 1
 
--- surcharge and live loads down
-abbrev pub isLiveWeight : Sort → ℤ
-isLiveWeight deadWeight = pos 0
-isLiveWeight liveWeight = pos 1
-isLiveWeight deadPush = pos 0
-isLiveWeight livePush = pos 0
+-- surcharge and live loads down, which rest on the wall
+abbrev pub rests : Sort → ℤ
+rests deadWeight = pos 0
+rests liveWeight = pos 1
+rests deadPush = pos 0
+rests livePush = pos 0
 
 -- what M6 takes, with its sign
 abbrev pub balances : Sort → ℤ
-balances sort = restores sort -ℤ overturns sort +ℤ isLiveWeight sort
+balances sort = restores sort -ℤ overturns sort +ℤ rests sort
 
 unfoldable pub totals : (Sort → ℤ) → List Component → Totals
 totals counts rows =
@@ -206,7 +206,7 @@ passive wall = roundedDown (passiveCoefficient wall * soilDensity wall * squared
 -- R less surcharge and live loads down
 unfoldable pub lastingWeight : Wall → List Load → ℤ
 lastingWeight wall loads =
-    service wall loads .vertical -ℤ columnSum isLiveWeight vertical (table (activeCoefficient wall) wall loads)
+    service wall loads .vertical -ℤ columnSum rests vertical (table (activeCoefficient wall) wall loads)
 
 unfoldable pub friction : Wall → List Load → ℕ
 friction wall loads = roundedDown (frictionTangent wall * aboveZero (lastingWeight wall loads)) thousandths

@@ -105,7 +105,7 @@ walls file = recordsFrom (wallAt file) 0 (wallCount file)
 unfoldable pub entries : File → List Entry
 entries file = recordsFrom (entryAt file) 0 (loadCount file)
 
--- the loads of the wall with a number, in file order
+-- the loads of wall number n, in file order
 abbrev pub wallOf : Entry → ℕ
 wallOf entry = getD entry 0 0
 
@@ -113,8 +113,8 @@ abbrev pub loadOf : Entry → Load
 loadOf entry = drop 1 entry
 
 unfoldable pub loadsOn : ℕ → List Entry → List Load
-loadsOn number [] = []
-loadsOn number (entry ∷ rest) = cond (eqb (wallOf entry) number) (loadOf entry ∷ loadsOn number rest) (loadsOn number rest)
+loadsOn n [] = []
+loadsOn n (entry ∷ rest) = cond (eqb (wallOf entry) n) (loadOf entry ∷ loadsOn n rest) (loadsOn n rest)
 
 -- ---- a wall's fields, by their numbers in document 01's table: lengths in mm, densities in 10 N/m3, coefficients in thousandths
 

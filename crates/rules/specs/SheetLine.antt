@@ -21,15 +21,15 @@ use Rattle.rules.specs.ToeAndStem.{toeShear, toeMoment, toeArea, stemShe
 -- ---- the checks
 
 pub data Check : Type 0 where
-  sliding overturning bearing serviceBearing factoredBearing toeSteel stemSteel shear : Check
+  sliding overturning overAllowable noServiceBlock noFactoredBlock toeSteel stemSteel shear : Check
 
 -- the test of each: does a wall fail it? The allowable pressure is in kN/m2, each of 1000 N/m2.
 unfoldable pub fails : Check → Wall → List Load → Bool
 fails sliding wall loads = slides wall loads
 fails overturning wall loads = ltZ (service wall loads .restoring) (service wall loads .overturning)
-fails bearing wall loads = ltb (1000 * allowableBearing wall) (peak serviceScale (serviceBlock wall loads))
-fails serviceBearing wall loads = not (isGiven (serviceBlock wall loads))
-fails factoredBearing wall loads = not (isGiven (factoredBlock wall loads))
+fails overAllowable wall loads = ltb (1000 * allowableBearing wall) (peak serviceScale (serviceBlock wall loads))
+fails noServiceBlock wall loads = not (isGiven (serviceBlock wall loads))
+fails noFactoredBlock wall loads = not (isGiven (factoredBlock wall loads))
 fails toeSteel wall loads = toeSteelFails wall loads
 fails stemSteel wall loads = stemSteelFails wall loads
 fails shear wall loads = toeShearFails wall loads || stemShearFails wall loads
@@ -41,15 +41,15 @@ Failure check wall loads = T (fails check wall loads)
 abbrev pub bit : Check → ℕ
 bit sliding = 1
 bit overturning = 2
-bit bearing = 4
-bit serviceBearing = 8
-bit factoredBearing = 16
+bit overAllowable = 4
+bit noServiceBlock = 8
+bit noFactoredBlock = 16
 bit toeSteel = 32
 bit stemSteel = 64
 bit shear = 128
 
 abbrev pub checks : List Check
-checks = sliding ∷ overturning ∷ bearing ∷ serviceBearing ∷ factoredBearing ∷ toeSteel ∷ stemSteel ∷ shear ∷ []
+checks = sliding ∷ overturning ∷ overAllowable ∷ noServiceBlock ∷ noFactoredBlock ∷ toeSteel ∷ stemSteel ∷ shear ∷ []
 
 -- the bits of the checks that fail, in one byte
 unfoldable pub failuresAmong : List Check → Wall → List Load → ℕ
@@ -59,14 +59,14 @@ failuresAmong (check ∷ rest) wall loads = cond (fails check wall loads) (bit c
 unfoldable pub failures : Wall → List Load → ℕ
 failures wall loads = failuresAmong checks wall loads
 
--- ---- the line of a wall with a number
+-- ---- the line of wall number n
 
 abbrev pub lineNumbers : ℕ
 lineNumbers = 16
 
 unfoldable pub line : ℕ → Wall → List Load → List ℤ
-line number wall loads =
-    pos number
+line n wall loads =
+    pos n
     ∷ pos (failures wall loads)
     ∷ service wall loads .vertical
     ∷ service wall loads .horizontal
@@ -84,10 +84,10 @@ line number wall loads =
     ∷ pos (stemArea wall loads)
     ∷ []
 
--- the lines of walls, the first of them with a number, each with its own loads of the file
+-- the lines of walls, the first of them number n, each with its own loads of the file
 unfoldable pub linesFrom : ℕ → List Wall → List Entry → List (List ℤ)
-linesFrom number [] there = []
-linesFrom number (wall ∷ rest) there = line number wall (loadsOn number there) ∷ linesFrom (suc number) rest there
+linesFrom n [] there = []
+linesFrom n (wall ∷ rest) there = line n wall (loadsOn n there) ∷ linesFrom (suc n) rest there
 
 unfoldable pub sheet : File → List (List ℤ)
 sheet file = linesFrom 1 (walls file) (entries file)
@@ -107,11 +107,12 @@ unfoldable pub bufferAfter : File → List ℤ → List ℤ
 bufferAfter file before =
     cond (isWorked (answerTo file (length before))) (joined (sheet file) ++ drop (lineNumbers * wallCount file) before) before
 
+-- what a call answers, and what the lent buffer holds after it
 pub record Calculates (file : File) (before : List ℤ) (answer : Answer) (after : List ℤ) : Type 0 where
   pub answered : answer ≡ answerTo file (length before)
   pub holds : after ≡ bufferAfter file before
 
--- ---- the printed text, as bytes
+-- ---- the printed text, as bytes; `code` is the number of a character
 
 abbrev pub ascii : String → List ℕ
 ascii empty = []
@@ -130,7 +131,7 @@ unfoldable pub digits : ℕ → ℕ → List ℕ
 digits zero n = []
 digits (suc most) n = elim (ltb n 10) [ true ↦ digit n ∷ [] | false ↦ digits most (n / 10) ++ digit (n % 10) ∷ [] ]
 
--- n never has more digits than n + 1
+-- n has at most n + 1 digits
 unfoldable pub decimal : ℕ → List ℕ
 decimal n = digits (suc n) n
 

@@ -13,7 +13,7 @@ use Rattle.rules.specs.declared.Kind.the-variants.{Full, FromToe, FromHe
 use Rattle.rules.specs.declared.Block.{Block}
 use Rattle.rules.specs.declared.Section.{Section}
 use Rattle.rules.specs.JobFile.{Wall, Load, stemHeight, stemThickness, toeLength, baseThickness, baseDensity, restCoefficient, concreteStrength, steelStrength, leastSteel, toeCover, toeBar, toeSpacing, stemCover, stemBar, stemSpacing, toeStress, stemStress, baseLength, bars, isDown, position, deadLoad, liveLoad}
-use Rattle.rules.specs.Forces.{perVolume, squared, saturatedHeight, Component, deadPush, livePush, across, pushRows, tenths, totals}
+use Rattle.rules.specs.Forces.{perVolume, squared, saturatedHeight, Component, deadPush, livePush, across, pushRows, horizontal, moment, columnSum, tenths}
 use Rattle.rules.specs.Bearing.{factoredScale, reported, factoredBlock, isGiven}
 
 -- ---- the factored pressure at a point, rounded up. Distances are given twice, so that half a millimetre is exact.
@@ -98,11 +98,11 @@ stemTable wall loads = pushRows wall (restCoefficient wall) (stemHeight wall) (s
 
 -- from tenths of a N
 unfoldable pub stemShear : Wall → List Load → ℕ
-stemShear wall loads = roundedUp (aboveZero (totals tenths (stemTable wall loads) .horizontal)) 10
+stemShear wall loads = roundedUp (aboveZero (columnSum tenths horizontal (stemTable wall loads))) 10
 
 -- from tenths of a sixth of a N mm
 unfoldable pub stemMoment : Wall → List Load → ℕ
-stemMoment wall loads = roundedUp (aboveZero (totals tenths (stemTable wall loads) .overturning)) (6 * 10)
+stemMoment wall loads = roundedUp (aboveZero (columnSum tenths moment (stemTable wall loads))) (6 * 10)
 
 -- ---- steel, BS 8110: one rule for every section
 
@@ -151,7 +151,7 @@ leverArm M fcu D = greatest (bears M fcu D) D
 unfoldable pub neededArea : ℕ → ℕ → ℕ → ℕ
 neededArea M fy Z = roundedUp (200 * M) (87 * fy * Z)
 
--- of a metre's width; the percentage is in hundredths
+-- of a metre's width, 1000 mm; a hundredth of a percent is a 10000th
 unfoldable pub leastArea : Section → ℕ
 leastArea s = roundedUp (s .least * 1000 * s .thickness) 10000
 
@@ -168,7 +168,7 @@ besides n (m ∷ ms) (area ∷ areas) = cond (eqb n m) area (besides n ms areas)
 unfoldable pub barArea : ℕ → ℕ
 barArea bar = besides bar bars barAreas
 
--- of bars at a spacing, from hundredths of mm2
+-- of bars at a spacing over a metre, 1000 mm, from hundredths of mm2
 unfoldable pub providedArea : ℕ → ℕ → ℕ
 providedArea bar spacing = roundedDown (barArea bar * 1000) (100 * spacing)
 
@@ -183,6 +183,7 @@ steelFails s M = needsCompression M (s .concrete) (twiceDepth s) || ltb (provide
 
 -- ---- shear: one rule for every section
 
+-- the stress is 2V / 1000D in N/mm2: it has to be below the concrete's, at most 5, and at most 0.8 of the root of fcu
 unfoldable pub shearFails : Section → ℕ → Bool
 shearFails s shear =
     let D = twiceDepth s in

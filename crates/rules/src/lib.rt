@@ -41,7 +41,8 @@ pub enum Kind {
     NoBlock,
 }
 
-// A bearing block: its pressure at the toe and at the heel, and the length of base in contact.
+// A bearing block: its pressure at the toe and at the heel in kN/m2, or in tenths of that where it is factored, and the length of base in
+// contact in mm.
 pub struct Block {
     pub kind: Kind,
     pub toe: Fraction,
