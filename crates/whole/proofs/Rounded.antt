@@ -1,5 +1,6 @@
 -- The laws of a / b rounded up, down and to the nearest: which whole number each is, and how they compare. Assumes nothing.
 use mathlib.Core.Path.{_≡_, sym}
+use mathlib.Core.Logic.{_≢_}
 use Prim.Native.Nat.{ℕ, zero, suc, _+_, _-_, _*_, _/_, _%_, _≤_, _<_}
 use native.Mathlib.Nat.{div-zero, zero-div, div-add-mod', mod-lt, le-mul-of-pos-right, div-mul-le-self, lt-div-mul-add, le-div-iff-mul-le, div-lt-iff-lt-mul, div-eq-of-lt-le, le-trans}
 use native.Mathlib.Omega.{arith}
@@ -39,6 +40,13 @@ pub up-only : (a : ℕ) {b n : ℕ} → 0 < b → a ≤ n * b → n * b < a + b 
 unfolding roundedUp
 up-only a {b} {n} h low high = sym (div-eq-of-lt-le b (omega arith) (omega arith))
 
+-- by the quotient and the rest: the quotient where nothing is left over, and else one more
+pub up-even : (a : ℕ) {b : ℕ} → 0 < b → a % b ≡ 0 → a / b ≡ roundedUp a b
+up-even a h e = let p = parts a h in up-only a h (omega arith) (omega arith)
+
+pub up-over : (a : ℕ) {b : ℕ} → 0 < b → a % b ≢ 0 → a / b + 1 ≡ roundedUp a b
+up-over a h e = let p = parts a h in up-only a h (omega arith) (omega arith)
+
 -- ---- rounded down: the greatest number that is not too much
 -- it is not too much
 pub down-within : (a b : ℕ) → roundedDown a b * b ≤ a
@@ -70,6 +78,13 @@ nearest-high a {b} h = omega (arith, lt-div-mul-add {a = 2 * a + b} {b = 2 * b} 
 pub nearest-only : (a : ℕ) {b n : ℕ} → 0 < b → 2 * (n * b) ≤ 2 * a + b → 2 * a < 2 * (n * b) + b → n ≡ roundedNearest a b
 unfolding roundedNearest
 nearest-only a {b} {n} h low high = sym (div-eq-of-lt-le (2 * b) (omega arith) (omega arith))
+
+-- by the quotient and the rest: the quotient where the rest is less than what it lacks of b, and else one more
+pub nearest-under : (a : ℕ) {b : ℕ} → 0 < b → a % b < b - a % b → a / b ≡ roundedNearest a b
+nearest-under a h k = let p = parts a h in nearest-only a h (omega arith) (omega arith)
+
+pub nearest-over : (a : ℕ) {b : ℕ} → 0 < b → b - a % b ≤ a % b → a / b + 1 ≡ roundedNearest a b
+nearest-over a h k = let p = parts a h in nearest-only a h (omega arith) (omega arith)
 
 -- at the half it goes up
 pub nearest-half : (a k : ℕ) {b : ℕ} → 2 * a ≡ (2 * k + 1) * b → 0 < b → roundedNearest a b ≡ k + 1
