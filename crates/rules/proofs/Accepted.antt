@@ -6,7 +6,9 @@ use Prim.Native.Nat.{ℕ, zero, suc, _+_, _-_, _≤_, _<_}
 use native.Mathlib.Omega.{arith}
 use lib.Dec.{T, leb, eqb, leb→le, eqb→eq}
 use lib.ListN.{length, getD}
-use Rattle.rules.specs.JobFile.{Wall, wallFields, Range, between, aBar, bars, among, within, wallHeight, waterHeight, field, ranges, firstOutside, firstBadField, wallFits}
+use Rattle.rules.specs.declared.Range.{Range}
+use Rattle.rules.specs.declared.Range.the-variants.{Between, ABar}
+use Rattle.rules.specs.JobFile.{Wall, wallFields, bars, among, within, wallHeight, waterHeight, field, ranges, firstOutside, firstBadField, wallFits}
 use Rattle.rules.specs.ToeAndStem.{barAreas}
 
 -- ---- tests
@@ -39,7 +41,7 @@ passed false rest number e = absurd (omega arith)
 
 -- where none from a number on is outside its range, each is within
 inside : (wall : Wall) (number : ℕ) (rs : List Range) → firstOutside wall (suc number) rs ≡ 0
-    → (i : ℕ) → i < length rs → T (within wall (getD rs i aBar) (getD wall (number + i) 0))
+    → (i : ℕ) → i < length rs → T (within wall (getD rs i ABar) (getD wall (number + i) 0))
 unfolding firstOutside
 inside wall number [] e i h = absurd (omega arith)
 inside wall number (r ∷ rs) e zero h =
@@ -50,13 +52,13 @@ inside wall number (r ∷ rs) e (suc i) h =
     rw k at (inside wall (suc number) rs (passed (within wall r (field wall (suc number))) _ number e .1) i (omega arith))
 
 -- the field at an index, which is its number less 1
-pub field-within : (wall : Wall) → T (wallFits wall) → (i : ℕ) → i < wallFields → T (within wall (getD ranges i aBar) (getD wall i 0))
+pub field-within : (wall : Wall) → T (wallFits wall) → (i : ℕ) → i < wallFields → T (within wall (getD ranges i ABar) (getD wall i 0))
 unfolding wallFits firstBadField
 field-within wall fits i h =
     let k : 0 + i ≡ i = omega arith in rw k at (inside wall 0 ranges (eqb→eq (firstBadField wall) 0 fits) i h)
 
 -- a field with two bounds, which the table of ranges gives
-pub field-between : (wall : Wall) → T (wallFits wall) → (i low high : ℕ) → i < wallFields → getD ranges i aBar ≡ between low high
+pub field-between : (wall : Wall) → T (wallFits wall) → (i low high : ℕ) → i < wallFields → getD ranges i ABar ≡ Between low high
     → (low ≤ getD wall i 0) × (getD wall i 0 ≤ high)
 unfolding within
 field-between wall fits i low high h e =
@@ -65,7 +67,7 @@ field-between wall fits i low high h e =
     (leb→le low (getD wall i 0) (k .0), leb→le (getD wall i 0) high (k .1))
 
 -- a bar has one of the diameters, and so at most 40
-pub field-bar : (wall : Wall) → T (wallFits wall) → (i : ℕ) → i < wallFields → getD ranges i aBar ≡ aBar → T (among (getD wall i 0) bars)
+pub field-bar : (wall : Wall) → T (wallFits wall) → (i : ℕ) → i < wallFields → getD ranges i ABar ≡ ABar → T (among (getD wall i 0) bars)
 unfolding within
 field-bar wall fits i h e = rw e at (field-within wall fits i h)
 

@@ -96,5 +96,5 @@ Hold [] = Unit
 Hold (p ∷ rest) = (p .worked ≡ p .wanted) × Hold rest
 
 pub points-hold : Hold points
-unfolding excavatedA pressed u16At u32At u32sAt edition wallCount firstWallOffset loadCount firstLoadOffset wholeLength entriesAt wallAt recordsFrom walls entries loadsOn baseLength wallHeight among within firstOutside firstBadField wallFits countsFit offsetsAndLengthFit firstBadWall firstBadLoad firstRefusal saturatedHeight stemWeight baseWeight saturatedWeight moistWeight surchargeWeight surchargePush moistPush moistPushBelow saturatedPush waterPush weightRows pushRows loadTable table columnSum totals service factored passiveDepth passive lastingWeight friction isPropped slides proppingForce isNone isFull isFromToe isFromHeel kindOf ofKind blockOf reported peak given blockUnder serviceBlock factoredBlock scaled pressureBy pressureAt twiceArm toeWorked shearOfBearing shearOfWeight momentOfBearing momentOfWeight toeShear toeMoment stemLoadTable stemTable stemShear stemMoment toeSection stemSection twiceDepth needsCompression bears greatest leverArm neededArea leastArea besides barArea providedArea requiredArea steelFails shearFails toeArea stemArea toeSteelFails stemSteelFails toeShearFails stemShearFails fails failuresAmong failures line linesFrom sheet joined digits decimal signedDecimal twoHexDigits lineRest lineText printed roundedUp roundedDown roundedNearest sumOf
+unfolding excavatedA pressed u16At u32At u32sAt entriesAt wallAt recordsFrom walls entries loadsOn baseLength wallHeight among within firstOutside firstBadField wallFits countsFit offsetsAndLengthFit firstBadWall firstBadLoad firstRefusal saturatedHeight stemWeight baseWeight saturatedWeight moistWeight surchargeWeight surchargePush moistPush moistPushBelow saturatedPush waterPush weightRows pushRows loadTable table columnSum totals service factored passiveDepth passive lastingWeight friction isPropped slides proppingForce isNone isFull isFromToe isFromHeel kindOf ofKind blockOf reported peak given blockUnder serviceBlock factoredBlock scaled pressureBy pressureAt twiceArm toeWorked shearOfBearing shearOfWeight momentOfBearing momentOfWeight toeShear toeMoment stemLoadTable stemTable stemShear stemMoment toeSection stemSection twiceDepth needsCompression bears greatest leverArm neededArea leastArea besides barArea providedArea requiredArea steelFails shearFails toeArea stemArea toeSteelFails stemSteelFails toeShearFails stemShearFails fails failuresAmong failures line linesFrom sheet joined digits decimal signedDecimal twoHexDigits lineRest lineText printed roundedUp roundedDown roundedNearest sumOf
 points-hold = (refl, (refl, (refl, (refl, (refl, (refl, (refl, (refl, (refl, (refl, (refl, (refl, (refl, (refl, (refl, (refl, tt))))))))))))))))

@@ -97,3 +97,7 @@ firstRefusal file =
     orElse refusedIf (not (offsetsAndLengthFit file)) WrongOffsetOrLength
     orElse firstBadWall 1 (walls file)
     orElse firstBadLoad (walls file) [] 1 (entries file)
+
+-- a job that is accepted has none of these
+abbrev pub accepted : File → Bool
+accepted file = isWorked (firstRefusal file)

@@ -4,6 +4,8 @@ use mathlib.Core.Bool.{Bool, false, _&&_, _||_, cond}
 use mathlib.Core.List.{List, [], _∷_}
 use lib.Dec.{leb, eqb}
 use lib.ListN.{getD, drop}
+use Rattle.rules.specs.declared.Range.{Range}
+use Rattle.rules.specs.declared.Range.the-variants.{Between, UpToTop, ABar}
 
 -- a job file is the list of its bytes; a wall is the list of its fields, in file order
 abbrev pub File : Type 0
@@ -40,22 +42,22 @@ u32sAt file at (suc n) = u32At file at ∷ u32sAt file (at + 4) n
 abbrev pub headerBytes : ℕ
 headerBytes = 12
 
-unfoldable pub edition : File → ℕ
+abbrev pub edition : File → ℕ
 edition file = u16At file 0
 
-unfoldable pub wallCount : File → ℕ
+abbrev pub wallCount : File → ℕ
 wallCount file = u16At file 2
 
-unfoldable pub firstWallOffset : File → ℕ
+abbrev pub firstWallOffset : File → ℕ
 firstWallOffset file = u16At file 4
 
-unfoldable pub loadCount : File → ℕ
+abbrev pub loadCount : File → ℕ
 loadCount file = u16At file 6
 
-unfoldable pub firstLoadOffset : File → ℕ
+abbrev pub firstLoadOffset : File → ℕ
 firstLoadOffset file = u16At file 8
 
-unfoldable pub wholeLength : File → ℕ
+abbrev pub wholeLength : File → ℕ
 wholeLength file = u16At file 10
 
 -- ---- the records: walls of 31 u32, and behind them entries of 5 u32
@@ -115,6 +117,12 @@ loadOf entry = drop 1 entry
 unfoldable pub loadsOn : ℕ → List Entry → List Load
 loadsOn n [] = []
 loadsOn n (entry ∷ rest) = cond (eqb (wallOf entry) n) (loadOf entry ∷ loadsOn n rest) (loadsOn n rest)
+
+-- their numbers, where the first entry has a number: loads are numbered in file order
+unfoldable pub numbersOn : ℕ → ℕ → List Entry → List ℕ
+numbersOn n number [] = []
+numbersOn n number (entry ∷ rest) =
+    cond (eqb (wallOf entry) n) (number ∷ numbersOn n (suc number) rest) (numbersOn n (suc number) rest)
 
 -- ---- a wall's fields, by their numbers in document 01's table: lengths in mm, densities in 10 N/m3, coefficients in thousandths
 
@@ -236,12 +244,6 @@ wallHeight wall = stemHeight wall + baseThickness wall
 
 -- ---- the range of each field
 
--- from a number to another, both included; from 0 to the wall's own height; a bar's diameter
-pub data Range : Type 0 where
-  between : ℕ → ℕ → Range
-  upToTop : Range
-  aBar : Range
-
 abbrev pub bars : List ℕ
 bars = 8 ∷ 10 ∷ 12 ∷ 16 ∷ 20 ∷ 25 ∷ 32 ∷ 40 ∷ []
 
@@ -250,30 +252,30 @@ among n [] = false
 among n (m ∷ ms) = eqb n m || among n ms
 
 unfoldable pub within : Wall → Range → ℕ → Bool
-within wall (between low high) n = leb low n && leb n high
-within wall upToTop n = leb n (wallHeight wall)
-within wall aBar n = among n bars
+within wall (Between low high) n = leb low n && leb n high
+within wall UpToTop n = leb n (wallHeight wall)
+within wall ABar n = among n bars
 
 -- a line for each row of document 01's table
 abbrev pub ranges : List Range
 ranges =
-    between 0 1
-    ∷ between 500 8000 ∷ between 200 1500
-    ∷ between 0 5000 ∷ between 0 5000 ∷ between 200 1500
-    ∷ between 0 1000 ∷ between 0 1000
-    ∷ upToTop
-    ∷ between 1500 3000 ∷ between 1500 3000
-    ∷ between 1000 3000 ∷ between 1000 3000 ∷ between 1000 3000
-    ∷ between 1 1000 ∷ between 1 1000
-    ∷ between 0 15000
-    ∷ between 0 1000
-    ∷ between 1 1000
-    ∷ between 0 10000
-    ∷ between 20 60 ∷ between 250 500
-    ∷ between 0 100
-    ∷ between 20 75 ∷ aBar ∷ between 50 500
-    ∷ between 20 75 ∷ aBar ∷ between 50 500
-    ∷ between 1 5000 ∷ between 1 5000
+    Between 0 1
+    ∷ Between 500 8000 ∷ Between 200 1500
+    ∷ Between 0 5000 ∷ Between 0 5000 ∷ Between 200 1500
+    ∷ Between 0 1000 ∷ Between 0 1000
+    ∷ UpToTop
+    ∷ Between 1500 3000 ∷ Between 1500 3000
+    ∷ Between 1000 3000 ∷ Between 1000 3000 ∷ Between 1000 3000
+    ∷ Between 1 1000 ∷ Between 1 1000
+    ∷ Between 0 15000
+    ∷ Between 0 1000
+    ∷ Between 1 1000
+    ∷ Between 0 10000
+    ∷ Between 20 60 ∷ Between 250 500
+    ∷ Between 0 100
+    ∷ Between 20 75 ∷ ABar ∷ Between 50 500
+    ∷ Between 20 75 ∷ ABar ∷ Between 50 500
+    ∷ Between 1 5000 ∷ Between 1 5000
     ∷ []
 
 -- the number of the first field out of range, from a number on; 0 where there is none

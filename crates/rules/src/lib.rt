@@ -1,4 +1,15 @@
-// Document 01 as definitions: `specs/` has a file for each of its headings. Here stand the types that its answers have.
+// Document 01 as definitions: `specs/` has a file for each of its headings. Here stand the types that its answers have,
+// and the one of its table of ranges.
+
+// The range of a wall's field.
+pub enum Range {
+    // from a number to another, both included
+    Between(u32, u32),
+    // from 0 to the wall's own height
+    UpToTop,
+    // one of the bars' diameters
+    ABar,
+}
 
 // What is answered: a case for each row of document 01's table of refusals, and one for a job that is worked.
 pub enum Answer {
