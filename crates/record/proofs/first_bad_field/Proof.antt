@@ -1,0 +1,97 @@
+-- `record::first_bad_field` meets its contract. The invariant: the first bad field is the first from the next one on. The code's table of
+-- ranges is the one of the rules, which a comparison of the two, entry by entry, shows.
+use mathlib.Core.Path.{_≡_, refl, sym, _∙_}
+use mathlib.Core.Bool.{true, false, cond}
+use Prim.Native.Nat.{ℕ, suc, _-_, _≤_, _<_}
+use native.Mathlib.Omega.{arith}
+use native.Mathlib.Numerals.{add-one}
+use borrow.Author.Tests.{not-true, not-false}
+use lib.ListN.{drop, getD}
+use lib.Seq.{drop-cons}
+use Rattle.rules.specs.declared.Range.{Range}
+use Rattle.rules.specs.JobFile.{Wall, ranges, within, firstOutside, firstBadField}
+use Rattle.record.proofs.first_bad_field.Statement.{statement}
+use Rattle.record.proofs.first_bad_field.Tie as tie
+
+-- one field is judged, and then those behind it
+module _ (wall : Wall) (i : ℕ) (d : Range) (h : i < 31) where
+  next : firstOutside wall (suc i) (drop i ranges)
+      ≡ cond (within wall (getD ranges i d) (getD wall i 0)) (firstOutside wall (suc (suc i)) (drop (suc i) ranges)) (suc i)
+  unfolding firstOutside
+  next = let k : suc i - 1 ≡ i = omega arith in rw (drop-cons ranges i d h, k)
+
+  stops : within wall (getD ranges i d) (getD wall i 0) ≡ false → firstOutside wall (suc i) (drop i ranges) ≡ suc i
+  stops e = next ∙ rw e
+
+  goes-on : within wall (getD ranges i d) (getD wall i 0) ≡ true
+      → firstOutside wall (suc i) (drop i ranges) ≡ firstOutside wall (suc (suc i)) (drop (suc i) ranges)
+  goes-on e = next ∙ rw e
+
+abbrev Inv-loop : tie.InvT-loop
+Inv-loop wall i₀ i = (i ≤ 31) × (firstBadField wall ≡ firstOutside wall (suc i) (drop i ranges))
+
+abbrev μ-loop : tie.MeasureT-loop
+μ-loop wall i₀ i = 31 - i
+
+loop-holds : tie.Need-loop-holds Inv-loop μ-loop
+unfolding firstBadField
+loop-holds c = (omega arith, refl)
+
+mul-range : tie.Need-mul-range Inv-loop μ-loop
+mul-range c = omega arith
+
+array-copy-out-range : tie.Need-array-copy-out-range Inv-loop μ-loop
+array-copy-out-range c = omega arith
+
+mul-is-within : tie.Need-mul-is-within Inv-loop μ-loop
+mul-is-within c = omega arith
+
+array-read-is-within : tie.Need-array-read-is-within Inv-loop μ-loop
+array-read-is-within c = omega arith
+
+is-within-requires : tie.Need-is-within-requires Inv-loop μ-loop
+is-within-requires c κs = tt
+
+add-result : tie.Need-add-result Inv-loop μ-loop
+add-result c = omega arith
+
+returns : tie.Need-returns Inv-loop μ-loop
+returns c =
+    let outside = sym (c .before .is-within .ensures) ∙ not-true _ (c .if1 .taken) in
+    let e = stops _ _ _ (c .before .before .before .loop-test .taken) outside in
+    rw add-one (sym (c .before .before .before .before .loop .inv .1 ∙ e))
+
+add-i : tie.Need-add-i Inv-loop μ-loop
+add-i c = omega arith
+
+loop-less : tie.Need-loop-less Inv-loop μ-loop
+loop-less c = omega arith
+
+loop-again : tie.Need-loop-again Inv-loop μ-loop
+loop-again c =
+    let inside = sym (c .before .is-within .ensures) ∙ not-false _ (c .if1 .left) in
+    let e = goes-on _ _ _ (c .before .before .before .loop-test .taken) inside in
+    (omega arith, rw add-one (c .before .before .before .before .loop .inv .1 ∙ e))
+
+returns-2 : tie.Need-returns-2 Inv-loop μ-loop
+unfolding firstOutside
+returns-2 c = let e : c .before .loop .i ≡ 31 = omega arith in sym (c .before .loop .inv .1 ∙ rw e)
+
+pub first-bad-field-spec : {M : Type 1} → statement M
+first-bad-field-spec =
+    tie.close
+    (tie.spec
+    Inv-loop
+    μ-loop
+    loop-holds
+    mul-range
+    array-copy-out-range
+    mul-is-within
+    array-read-is-within
+    is-within-requires
+    add-result
+    returns
+    add-i
+    loop-less
+    loop-again
+    returns-2)

@@ -1,0 +1,51 @@
+-- `record::is_within` meets its contract: a case for each kind of range.
+use borrow.Author.Needs.{needs}
+use borrow.Author.Tests.{le-leb, lt-leb}
+use Rattle.rules.specs.JobFile.{within}
+use Rattle.record.proofs.is_within.Statement.{statement}
+use Rattle.record.proofs.is_within.Tie as tie
+
+enum-known-range : tie.Need-enum-known-range
+enum-known-range c = search needs
+
+enum-told : tie.Need-enum-told
+enum-told c = search needs
+
+wall-height-requires : tie.Need-wall-height-requires
+wall-height-requires c κs = search needs
+
+enum-told-2 : tie.Need-enum-told-2
+enum-told-2 c = search needs
+
+is-bar-requires : tie.Need-is-bar-requires
+is-bar-requires c κs = search needs
+
+returns : tie.Need-returns
+unfolding within
+returns c = rw (c .before .before .range .given .1, le-leb _ _ (c .if1 .taken))
+
+returns-2 : tie.Need-returns-2
+unfolding within
+returns-2 c = rw (c .before .before .range .given .1, lt-leb _ _ (c .if1 .left))
+
+returns-3 : tie.Need-returns-3
+unfolding within
+returns-3 c = rw (c .before .enum-told .given .1, c .wall-height .ensures)
+
+returns-4 : tie.Need-returns-4
+unfolding within
+returns-4 c = rw (c .before .enum-told2 .given .1) (c .is-bar .ensures)
+
+pub is-within-spec : {M : Type 1} → statement M
+is-within-spec =
+    tie.close
+    (tie.spec
+    enum-known-range
+    enum-told
+    wall-height-requires
+    enum-told-2
+    is-bar-requires
+    returns
+    returns-2
+    returns-3
+    returns-4)

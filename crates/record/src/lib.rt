@@ -1,0 +1,157 @@
+// Document 01, "The job file": is a wall, is a load within range?
+use rules::Range;
+ghost use mathlib.Core.Path.{_≡_};
+ghost use Prim.Native.Nat.{_<_, _^_};
+ghost use lib.ListN.{getD};
+ghost use Rattle.rules.specs.JobFile.{baseLength, wallHeight, bars, among, within, firstBadField, reach, loadFits};
+
+// A wall is a number for each of its fields, in file order.
+pub const FIELDS: usize = 31;
+
+// Where the fields stand that others are judged by.
+pub const STEM_HEIGHT: usize = 1;
+
+pub const STEM_THICKNESS: usize = 2;
+
+pub const TOE_LENGTH: usize = 3;
+
+pub const HEEL_LENGTH: usize = 4;
+
+pub const BASE_THICKNESS: usize = 5;
+
+// A load is its direction, its position, its dead and its live part.
+pub const LOAD_FIELDS: usize = 4;
+
+pub const DIRECTION: usize = 0;
+
+pub const POSITION: usize = 1;
+
+pub const DEAD: usize = 2;
+
+pub const LIVE: usize = 3;
+
+// The range of each field, a line for each row of document 01's table.
+const RANGES: [Range; FIELDS] = [
+    Range::Between(0, 1),
+    Range::Between(500, 8000),
+    Range::Between(200, 1500),
+    Range::Between(0, 5000),
+    Range::Between(0, 5000),
+    Range::Between(200, 1500),
+    Range::Between(0, 1000),
+    Range::Between(0, 1000),
+    Range::UpToTop,
+    Range::Between(1500, 3000),
+    Range::Between(1500, 3000),
+    Range::Between(1000, 3000),
+    Range::Between(1000, 3000),
+    Range::Between(1000, 3000),
+    Range::Between(1, 1000),
+    Range::Between(1, 1000),
+    Range::Between(0, 15000),
+    Range::Between(0, 1000),
+    Range::Between(1, 1000),
+    Range::Between(0, 10000),
+    Range::Between(20, 60),
+    Range::Between(250, 500),
+    Range::Between(0, 100),
+    Range::Between(20, 75),
+    Range::ABar,
+    Range::Between(50, 500),
+    Range::Between(20, 75),
+    Range::ABar,
+    Range::Between(50, 500),
+    Range::Between(1, 5000),
+    Range::Between(1, 5000),
+];
+
+// The diameters that a bar can have.
+const BARS: [u32; 8] = [8, 10, 12, 16, 20, 25, 32, 40];
+
+// The most dead and the most live load, in N/m.
+const MOST_LOAD: u32 = 200000;
+
+fn wide(n: u32) -> u64
+    ensures { λ r. ⌜ (r ≡ n) × (r < 2 ^ 32) ⌝ }
+{
+    n as u64
+}
+
+// The field at an index; 0 behind the last.
+pub fn field(wall: [u32; FIELDS], i: usize) -> u64
+    ensures { λ r. ⌜ (r ≡ getD wall i 0) × (r < 2 ^ 32) ⌝ }
+{
+    if i < FIELDS { wide(wall[i]) } else { 0 }
+}
+
+// The base's length l: toe, stem and heel.
+pub fn base_length(wall: [u32; FIELDS]) -> u64
+    ensures { λ r. ⌜ r ≡ baseLength wall ⌝ }
+{
+    field(wall, TOE_LENGTH) + field(wall, STEM_THICKNESS) + field(wall, HEEL_LENGTH)
+}
+
+// The wall's height h: stem and base.
+pub fn wall_height(wall: [u32; FIELDS]) -> u64
+    ensures { λ r. ⌜ r ≡ wallHeight wall ⌝ }
+{
+    field(wall, STEM_HEIGHT) + field(wall, BASE_THICKNESS)
+}
+
+fn is_bar(n: u32) -> bool
+    ensures { λ r. ⌜ r ≡ among n bars ⌝ }
+{
+    for i in 0..BARS.len() {
+        if n == BARS[i] {
+            return true;
+        }
+    }
+    false
+}
+
+fn is_within(wall: [u32; FIELDS], range: Range, n: u32) -> bool
+    ensures { λ r. ⌜ r ≡ within wall range n ⌝ }
+{
+    match range {
+        Range::Between(low, high) => low <= n && n <= high,
+        Range::UpToTop => n as u64 <= wall_height(wall),
+        Range::ABar => is_bar(n),
+    }
+}
+
+// The number of the first field out of range, in field order; 0 where there is none.
+pub fn first_bad_field(wall: [u32; FIELDS]) -> usize
+    ensures { λ r. ⌜ r ≡ firstBadField wall ⌝ }
+{
+    for i in 0..FIELDS {
+        let range = RANGES[i];
+        if !is_within(wall, range, wall[i]) {
+            return i + 1;
+        }
+    }
+    0
+}
+
+// How far a load can stand: a load down along the base, a horizontal one up the wall.
+fn reach_of(wall: [u32; FIELDS], load: [u32; LOAD_FIELDS]) -> u64
+    ensures { λ r. ⌜ r ≡ reach wall load ⌝ }
+{
+    if load[DIRECTION] == 0 {
+        base_length(wall)
+    } else {
+        wall_height(wall)
+    }
+}
+
+// Is a load within range against its wall?
+pub fn load_fits(wall: [u32; FIELDS], load: [u32; LOAD_FIELDS]) -> bool
+    ensures { λ r. ⌜ r ≡ loadFits wall load ⌝ }
+{
+    if 1 < load[DIRECTION] {
+        return false;
+    }
+    if reach_of(wall, load) < load[POSITION] as u64 {
+        return false;
+    }
+    load[DEAD] <= MOST_LOAD && load[LIVE] <= MOST_LOAD
+}
