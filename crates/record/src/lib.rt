@@ -3,7 +3,7 @@ use rules::Range;
 ghost use mathlib.Core.Path.{_≡_};
 ghost use Prim.Native.Nat.{_<_, _^_};
 ghost use lib.ListN.{getD};
-ghost use Rattle.rules.specs.JobFile.{baseLength, wallHeight, bars, among, within, firstBadField, reach, loadFits};
+ghost use Rattle.rules.specs.JobFile.{baseLength, wallHeight, bars, among, within, firstBadField, wallFits, reach, loadFits};
 
 // A wall is a number for each of its fields, in file order.
 pub const FIELDS: usize = 31;
@@ -130,6 +130,13 @@ pub fn first_bad_field(wall: [u32; FIELDS]) -> usize
         }
     }
     0
+}
+
+// Is every field within range?
+pub fn wall_fits(wall: [u32; FIELDS]) -> bool
+    ensures { λ r. ⌜ r ≡ wallFits wall ⌝ }
+{
+    first_bad_field(wall) == 0
 }
 
 // How far a load can stand: a load down along the base, a horizontal one up the wall.

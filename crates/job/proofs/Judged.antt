@@ -1,0 +1,136 @@
+-- Walls and loads are judged one after the other, in file order: what one step of either test tells, and how a count for each wall goes along.
+use mathlib.Core.Path.{_≡_, refl, _∙_}
+use mathlib.Core.Bool.{Bool, true, false, cond}
+use mathlib.Core.List.{List, [], _∷_, _++_}
+use Prim.Native.Nat.{ℕ, suc, _+_, _-_, _≤_, _<_}
+use native.Mathlib.Omega.{arith}
+use borrow.Author.Tests.{eq-eqb, ne-eqb, eqb-true, eqb-false}
+use lib.Dec.{T, leb, eqb, leb→le}
+use lib.ListN.{length, getD, set, replicate, length-set, length-append, getD-replicate}
+use lib.Seq.{getD-set-same, getD-set-other}
+use Rattle.rules.specs.declared.Answer.{Answer}
+use Rattle.rules.specs.declared.Answer.the-variants.{Worked, WallOutOfRange, LoadOutOfRange, NinthLoad}
+use Rattle.rules.specs.JobFile.{File, Wall, Entry, wallCount, wallAt, entryAt, recordsFrom, walls, wallOf, loadOf, loadsOn, wallFits, loadFits, mostWalls, mostLoadsOnWall}
+use Rattle.rules.specs.Answered.{firstBadWall, isThere, numbered, entryFits, isOneMore, firstBadLoad}
+use Rattle.rules.proofs.Accepted.{both}
+use Rattle.rules.proofs.AcceptedFile.{records-more, loads-join, walls-length}
+
+-- the records that are left are the next one and those behind it
+records-next : (f : ℕ → List ℕ) (i n : ℕ) → i < n → recordsFrom f i (n - i) ≡ f i ∷ recordsFrom f (suc i) (n - suc i)
+unfolding recordsFrom
+records-next f i n h = let e : n - i ≡ suc (n - suc i) = omega arith in rw e
+
+records-none : (f : ℕ → List ℕ) (n : ℕ) → recordsFrom f n (n - n) ≡ []
+unfolding recordsFrom
+records-none f n = let e : n - n ≡ 0 = omega arith in rw e
+
+-- ---- walls
+
+-- what is answered from the wall at an index on, of n walls
+abbrev pub fromWall : File → ℕ → ℕ → Answer
+fromWall file n i = firstBadWall (suc i) (recordsFrom (wallAt file) i (n - i))
+
+module _ (file : File) (n i : ℕ) where
+  -- that wall is out of range
+  pub wall-refused : (wall : Wall) → wall ≡ wallAt file i → i < n → wallFits wall ≡ false → fromWall file n i ≡ WallOutOfRange (suc i)
+  unfolding firstBadWall
+  wall-refused wall its h e = rw (records-next (wallAt file) i n h, ← its, e)
+
+  -- it is passed
+  pub wall-passed : (wall : Wall) → wall ≡ wallAt file i → i < n → wallFits wall ≡ true → fromWall file n i ≡ fromWall file n (suc i)
+  unfolding firstBadWall
+  wall-passed wall its h e = rw (records-next (wallAt file) i n h, ← its, e)
+
+  -- there is none left
+  pub walls-passed : i ≡ n → fromWall file n i ≡ Worked
+  unfolding firstBadWall
+  walls-passed e = rw (e, records-none (wallAt file) n)
+
+-- ---- loads
+
+-- what is answered from the load at an index on, of n loads, behind those that were passed
+abbrev pub passedLoads : File → ℕ → List Entry
+passedLoads file i = recordsFrom (entryAt file) 0 i
+
+abbrev pub fromLoad : File → ℕ → ℕ → Answer
+fromLoad file n i = firstBadLoad (walls file) (passedLoads file i) (suc i) (recordsFrom (entryAt file) i (n - i))
+
+one-passed : (file : File) (i : ℕ) (entry : Entry) → entry ≡ entryAt file i → passedLoads file (suc i) ≡ passedLoads file i ++ entry ∷ []
+one-passed file i entry its = let e : 0 + i ≡ i = omega arith in rw (records-more, e, its)
+
+module _ (file : File) (n i : ℕ) where
+  -- that load is out of range, or its wall isn't there
+  pub load-refused : (entry : Entry) → entry ≡ entryAt file i → i < n → entryFits (walls file) entry ≡ false → fromLoad file n i ≡ LoadOutOfRange (suc i)
+  unfolding firstBadLoad
+  load-refused entry its h e = rw (records-next (entryAt file) i n h, ← its, e)
+
+  module _ (entry : Entry) (its : entry ≡ entryAt file i) (h : i < n) (fits : entryFits (walls file) entry ≡ true) where
+    -- it is one more than its wall may have
+    pub load-is-ninth : isOneMore (passedLoads file i) entry ≡ true → fromLoad file n i ≡ NinthLoad (suc i)
+    unfolding firstBadLoad
+    load-is-ninth e = rw (records-next (entryAt file) i n h, ← its, fits, e)
+
+    -- it is passed
+    pub load-passed : isOneMore (passedLoads file i) entry ≡ false → fromLoad file n i ≡ fromLoad file n (suc i)
+    unfolding firstBadLoad
+    load-passed e = rw (records-next (entryAt file) i n h, ← its, fits, e, ← one-passed file i entry its)
+
+  -- there is none left
+  pub loads-passed : i ≡ n → fromLoad file n i ≡ Worked
+  unfolding firstBadLoad
+  loads-passed e = rw (e, records-none (entryAt file) n)
+
+-- a load that fits is on one of the walls that there are
+pub has-wall : (file : File) (entry : Entry) → entryFits (walls file) entry ≡ true → (1 ≤ wallOf entry) × (wallOf entry ≤ wallCount file)
+unfolding entryFits
+has-wall file entry e =
+    let n = wallOf entry in
+    let there = isThere n (walls file) in
+    let h = both (leb 1 n) (leb n (length (walls file))) (both there (loadFits (numbered n (walls file)) (loadOf entry)) (rw e tt) .0) in
+    (leb→le 1 n (h .0), rw walls-length at (leb→le n (length (walls file)) (h .1)))
+
+-- ---- a count for each wall
+
+-- how many of some entries are on each wall
+pub record Counted (counts : List ℕ) (es : List Entry) : Type 0 where
+  pub size : length counts ≡ mostWalls
+  pub count : (w : ℕ) → w < mostWalls → getD counts w 0 ≡ length (loadsOn (suc w) es)
+
+-- none at first
+pub none-counted : Counted (replicate mostWalls 0) []
+unfolding loadsOn
+none-counted = record { size = refl; count = λ w h. getD-replicate mostWalls w 0 0 h }
+
+-- one more entry is one more on its wall, and none on any other
+one-counted : (counts : List ℕ) (es : List Entry) (e : Entry) (w : ℕ) → wallOf e ≡ suc w → w < mostWalls → Counted counts es
+    → Counted (set counts w (getD counts w 0 + 1)) (es ++ e ∷ [])
+unfolding loadsOn
+one-counted counts es e w its h counted = record { size = length-set counts w (getD counts w 0 + 1) ∙ counted .size; count = count }
+  where
+    more : List ℕ
+    more = set counts w (getD counts w 0 + 1)
+
+    go : (v : ℕ) (same : Bool) → eqb v w ≡ same → v < mostWalls
+        → getD more v 0 ≡ length (loadsOn (suc v) es) + length (cond (eqb (wallOf e) (suc v)) (loadOf e ∷ []) [])
+    go v true same k =
+        let at = getD-set-same counts w (getD counts w 0 + 1) 0 (omega (arith, counted .size)) in
+        rw (eqb-true v w same, at, eq-eqb (wallOf e) (suc w) its, counted .count w h) (omega arith)
+    go v false same k =
+        let other = eqb-false v w same in
+        rw (getD-set-other counts w v (getD counts w 0 + 1) 0 other, ne-eqb (wallOf e) (suc v) (λ z. other (omega arith)), counted .count v k) (omega arith)
+
+    count : (v : ℕ) → v < mostWalls → getD more v 0 ≡ length (loadsOn (suc v) (es ++ e ∷ []))
+    count v k = rw (loads-join (suc v) es (e ∷ []), length-append) (go v (eqb v w) refl k)
+
+module _ (file : File) (i : ℕ) (counts : List ℕ) (entry : Entry) (on : (1 ≤ wallOf entry) × (wallOf entry ≤ mostWalls)) (counted : Counted counts (passedLoads file i)) where
+  index : wallOf entry ≡ suc (wallOf entry - 1)
+  index = omega arith
+
+  -- the next load is counted
+  pub next-counted : entry ≡ entryAt file i → Counted (set counts (wallOf entry - 1) (getD counts (wallOf entry - 1) 0 + 1)) (passedLoads file (suc i))
+  next-counted its = rw (one-passed file i entry its) (one-counted counts (passedLoads file i) entry (wallOf entry - 1) index (omega arith) counted)
+
+  -- whether it is one more than its wall may have, by the count
+  pub is-one-more : isOneMore (passedLoads file i) entry ≡ leb mostLoadsOnWall (getD counts (wallOf entry - 1) 0)
+  unfolding isOneMore
+  is-one-more = rw (counted .count (wallOf entry - 1) (omega arith), ← index)

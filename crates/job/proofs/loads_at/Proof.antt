@@ -1,0 +1,84 @@
+-- `job::loads_at` meets its contract. The invariant: the loads passed are those at the places passed.
+use mathlib.Core.Path.{_≡_, refl, sym, _∙_}
+use mathlib.Core.List.{List, [], _∷_, _++_, map-append}
+use Prim.Native.Nat.{ℕ, suc, _-_, _≤_, _<_}
+use native.Mathlib.Omega.{arith}
+use native.Mathlib.Numerals.{add-one}
+use lib.ListN.{length, getD, take, length-set}
+use lib.Seq.{take-all, take-suc, take-suc-set}
+use Rattle.rules.specs.JobFile.{File}
+use Rattle.job.specs.Places.{loadNumbered, loadsAt}
+use Rattle.job.proofs.loads_at.Statement.{statement}
+use Rattle.job.proofs.loads_at.Tie as tie
+
+-- one more place is read behind the others
+next : (file : File) (places : List ℕ) (k : ℕ) → k < length places
+    → loadsAt file (take (suc k) places) ≡ loadsAt file (take k places) ++ loadNumbered file (getD places k 0) ∷ []
+unfolding loadsAt
+next file places k h = rw (take-suc places k 0 h, map-append)
+
+abbrev Inv-loop : tie.InvT-loop
+Inv-loop file places loads₀ k₀ loads k = (length loads ≡ 8) × (k ≤ 8) × (take k loads ≡ loadsAt file (take k places))
+
+abbrev μ-loop : tie.MeasureT-loop
+μ-loop file places loads₀ k₀ loads k = 8 - k
+
+loop-holds : tie.Need-loop-holds Inv-loop μ-loop
+unfolding loadsAt
+loop-holds c = (refl, omega arith, refl)
+
+mul-load-numbered : tie.Need-mul-load-numbered Inv-loop μ-loop
+mul-load-numbered c = omega arith
+
+array-read-load-numbered : tie.Need-array-read-load-numbered Inv-loop μ-loop
+array-read-load-numbered c = omega arith
+
+load-numbered-requires : tie.Need-load-numbered-requires Inv-loop μ-loop
+load-numbered-requires c κs = tt
+
+mul-loads : tie.Need-mul-loads Inv-loop μ-loop
+mul-loads c = omega arith
+
+array-set-from-loads : tie.Need-array-set-from-loads Inv-loop μ-loop
+array-set-from-loads c = omega arith
+
+add-k : tie.Need-add-k Inv-loop μ-loop
+add-k c = omega arith
+
+loop-less : tie.Need-loop-less Inv-loop μ-loop
+loop-less c = omega arith
+
+loop-again : tie.Need-loop-again Inv-loop μ-loop
+loop-again c =
+    let loop = c .before .before .loop in
+    let places = c .before .before .before .before .args .t2 in
+    let inside : loop .k < length (loop .loads) = omega arith in
+    let there : loop .k < length places = omega (arith, c .before .before .before .before .good .1 .0 .1 .0 .1) in (
+      length-set (loop .loads) (loop .k) _ ∙ loop .inv .0,
+      omega arith,
+      rw (add-one, take-suc-set (loop .loads) (loop .k) _ inside, next _ places (loop .k) there, loop .inv .2, c .load-numbered .ensures),
+    )
+
+returns : tie.Need-returns Inv-loop μ-loop
+returns c =
+    let loop = c .before .loop in
+    let places = c .before .before .before .args .t2 in
+    let end : length places ≤ loop .k = omega (arith, c .before .before .before .good .1 .0 .1 .0 .1) in
+    sym (take-all (loop .k) (loop .loads) (omega arith)) ∙ loop .inv .2 ∙ rw (take-all (loop .k) places end)
+
+pub loads-at-spec : {M : Type 1} → statement M
+loads-at-spec =
+    tie.close
+    (tie.spec
+    Inv-loop
+    μ-loop
+    loop-holds
+    mul-load-numbered
+    array-read-load-numbered
+    load-numbered-requires
+    mul-loads
+    array-set-from-loads
+    add-k
+    loop-less
+    loop-again
+    returns)

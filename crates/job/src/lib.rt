@@ -1,0 +1,186 @@
+// A job file taken apart: whatever its bytes are, there are numbers, records and a first refusal, or none.
+use record::FIELDS;
+use record::LOAD_FIELDS;
+use rules::Answer;
+
+mod bytes;
+mod refusals;
+
+ghost use mathlib.Core.Path.{_≡_};
+ghost use Prim.Native.Nat.{_<_, _^_};
+ghost use Rattle.rules.specs.JobFile.{edition, wallCount, firstWallOffset, loadCount, firstLoadOffset, wholeLength, entriesAt, wallAt, entryAt, entries, loadOf};
+ghost use Rattle.rules.specs.Answered.{firstRefusal};
+ghost use Rattle.job.specs.Places.{loadNumbered, withPlace, placeTable, loadsAt};
+
+// The layout: a header, walls, and behind them entries, each a wall's number and a load.
+pub const HEADER_BYTES: usize = 12;
+
+pub const WALL_BYTES: usize = 4 * FIELDS;
+
+pub const ENTRY_FIELDS: usize = 5;
+
+pub const ENTRY_BYTES: usize = 4 * ENTRY_FIELDS;
+
+// The edition that is read.
+const EDITION: u16 = 1;
+
+// How many walls and loads a file may have, and loads a wall.
+pub const MOST_WALLS: usize = 64;
+
+pub const MOST_LOADS: usize = 512;
+
+pub const MOST_LOADS_ON_WALL: usize = 8;
+
+// The six numbers of the header.
+pub fn edition(file: &[u8]) -> u16
+    ensures { λ r. ⌜ r ≡ edition (now (file .entry)) ⌝ }
+{
+    bytes::u16_at(file, 0)
+}
+
+pub fn wall_count(file: &[u8]) -> u16
+    ensures { λ r. ⌜ r ≡ wallCount (now (file .entry)) ⌝ }
+{
+    bytes::u16_at(file, 2)
+}
+
+pub fn first_wall_offset(file: &[u8]) -> u16
+    ensures { λ r. ⌜ r ≡ firstWallOffset (now (file .entry)) ⌝ }
+{
+    bytes::u16_at(file, 4)
+}
+
+pub fn load_count(file: &[u8]) -> u16
+    ensures { λ r. ⌜ r ≡ loadCount (now (file .entry)) ⌝ }
+{
+    bytes::u16_at(file, 6)
+}
+
+pub fn first_load_offset(file: &[u8]) -> u16
+    ensures { λ r. ⌜ r ≡ firstLoadOffset (now (file .entry)) ⌝ }
+{
+    bytes::u16_at(file, 8)
+}
+
+pub fn whole_length(file: &[u8]) -> u16
+    ensures { λ r. ⌜ r ≡ wholeLength (now (file .entry)) ⌝ }
+{
+    bytes::u16_at(file, 10)
+}
+
+// The wall at an index from 0.
+pub fn wall_at(file: &[u8], i: u32) -> [u32; FIELDS]
+    ensures { λ r. ⌜ r ≡ wallAt (now (file .entry)) i ⌝ }
+{
+    let at = HEADER_BYTES + WALL_BYTES * (i as usize);
+    let mut wall = [0u32; FIELDS];
+    for k in 0..FIELDS {
+        wall[k] = bytes::u32_at(file, at + 4 * k);
+    }
+    wall
+}
+
+// Where the first entry stands: behind as many walls as the header says.
+fn entries_at(file: &[u8]) -> usize
+    ensures { λ r. ⌜ (r ≡ entriesAt (now (file .entry))) × (r < 2 ^ 24) ⌝ }
+{
+    HEADER_BYTES + WALL_BYTES * (wall_count(file) as usize)
+}
+
+// The entry at an index from 0: the number of a wall, and a load.
+pub fn entry_at(file: &[u8], i: u32) -> [u32; ENTRY_FIELDS]
+    ensures { λ r. ⌜ r ≡ entryAt (now (file .entry)) i ⌝ }
+{
+    let at = entries_at(file) + ENTRY_BYTES * (i as usize);
+    let mut entry = [0u32; ENTRY_FIELDS];
+    for k in 0..ENTRY_FIELDS {
+        entry[k] = bytes::u32_at(file, at + 4 * k);
+    }
+    entry
+}
+
+// An entry's load: everything but the number of its wall.
+fn load_of(entry: [u32; ENTRY_FIELDS]) -> [u32; LOAD_FIELDS]
+    ensures { λ r. ⌜ r ≡ loadOf entry ⌝ }
+{
+    [entry[1], entry[2], entry[3], entry[4]]
+}
+
+// The load with a number, from 1; number 0 is no load.
+fn load_numbered(file: &[u8], number: u32) -> [u32; LOAD_FIELDS]
+    ensures { λ r. ⌜ r ≡ loadNumbered (now (file .entry)) number ⌝ }
+{
+    if number == 0 {
+        return [0u32; LOAD_FIELDS];
+    }
+    load_of(entry_at(file, number - 1))
+}
+
+// A row of places with one more number in the first that is free; where none is, the row as it was.
+fn with_place(row: [u32; MOST_LOADS_ON_WALL], number: u32) -> [u32; MOST_LOADS_ON_WALL]
+    ensures { λ r. ⌜ r ≡ withPlace row number ⌝ }
+{
+    let mut places = row;
+    for k in 0..MOST_LOADS_ON_WALL {
+        if places[k] == 0 {
+            places[k] = number;
+            return places;
+        }
+    }
+    places
+}
+
+// Where the loads of each wall stand, found in one pass: a row for each wall that a file may have, with the numbers of its loads in file
+// order, the first eight of them, and 0 after the last.
+pub fn places(file: &[u8]) -> [[u32; MOST_LOADS_ON_WALL]; MOST_WALLS]
+    ensures { λ r. ⌜ r ≡ placeTable (entries (now (file .entry))) ⌝ }
+{
+    let mut table = [[0u32; MOST_LOADS_ON_WALL]; MOST_WALLS];
+    let loads = load_count(file) as u32;
+    for i in 0..loads {
+        let entry = entry_at(file, i);
+        let wall = entry[0];
+        if 1 <= wall && wall <= MOST_WALLS as u32 {
+            let index = (wall - 1) as usize;
+            table[index] = with_place(table[index], i + 1);
+        }
+    }
+    table
+}
+
+// The loads of a wall, read at its row of places: rows of zeros after the last.
+pub fn loads_at(
+    file: &[u8],
+    places: [u32; MOST_LOADS_ON_WALL],
+) -> [[u32; LOAD_FIELDS]; MOST_LOADS_ON_WALL]
+    ensures { λ r. ⌜ r ≡ loadsAt (now (file .entry)) places ⌝ }
+{
+    let mut loads = [[0u32; LOAD_FIELDS]; MOST_LOADS_ON_WALL];
+    for k in 0..MOST_LOADS_ON_WALL {
+        loads[k] = load_numbered(file, places[k]);
+    }
+    loads
+}
+
+// The first refusal of the file, in document 01's order, or that it is worked.
+pub fn first_refusal(file: &[u8]) -> Answer
+    ensures { λ r. ⌜ r ≡ firstRefusal (now (file .entry)) ⌝ }
+{
+    if file.len() < HEADER_BYTES {
+        return Answer::TooShort;
+    }
+    if edition(file) != EDITION {
+        return Answer::WrongEdition;
+    }
+    if !refusals::counts_fit(file) {
+        return Answer::CountOutOfRange;
+    }
+    if !refusals::offsets_and_length_fit(file) {
+        return Answer::WrongOffsetOrLength;
+    }
+    let walls = refusals::first_bad_wall(file);
+    if !refusals::is_worked(walls) {
+        return walls;
+    }
+    refusals::first_bad_load(file)
+}

@@ -1,0 +1,235 @@
+-- The loads of a wall keep the order of the file, and every load belongs to exactly one wall.
+use mathlib.Core.Path.{_≡_, refl, sym, ap, ap₂, fun-ext, _∙_}
+use mathlib.Core.Bool.{Bool, true, false, _||_, cond}
+use mathlib.Core.List.{List, [], _∷_, map}
+use Prim.Native.Nat.{ℕ, zero, suc, _+_, _-_, _≤_, _<_}
+use native.Mathlib.Omega.{arith}
+use lib.Dec.{T, eqb, eqb→eq}
+use lib.ListN.{length, getD}
+use borrow.Author.Tests.{eqb-true, eqb-false, eq-eqb, ne-eqb}
+use Rattle.rules.proofs.Accepted.{either}
+use Rattle.rules.proofs.AcceptedFile.{entry-at, entries-length, load-has-wall}
+use Rattle.rules.specs.JobFile.{File, Load, Entry, wallCount, loadCount, entryAt, recordsFrom, entries, wallOf, loadOf, loadsOn, numbersOn, among}
+use Rattle.rules.specs.Answered.{accepted}
+
+-- ---- the numbers of a wall's loads
+
+-- a wall has as many numbers as loads
+pub as-many : (n first : ℕ) (es : List Entry) → length (numbersOn n first es) ≡ length (loadsOn n es)
+unfolding loadsOn numbersOn
+as-many n first [] = refl
+as-many n first (e ∷ es) = go (eqb (wallOf e) n) (as-many n (suc first) es)
+  where
+    rest : List ℕ
+    rest = numbersOn n (suc first) es
+
+    go : (on : Bool) → length rest ≡ length (loadsOn n es)
+        → length (cond on (first ∷ rest) rest) ≡ length (cond on (loadOf e ∷ loadsOn n es) (loadsOn n es))
+    go true same = ap suc same
+    go false same = same
+
+-- of any records: the loads of a wall are those that have its numbers, which are one more than the records' indices
+loads-from : (f : ℕ → Entry) (n i count : ℕ)
+    → loadsOn n (recordsFrom f i count) ≡ map (λ number. loadOf (f (number - 1))) (numbersOn n (suc i) (recordsFrom f i count))
+unfolding loadsOn numbersOn recordsFrom
+loads-from f n i zero = refl
+loads-from f n i (suc count) = go (eqb (wallOf (f i)) n) (loads-from f n (suc i) count)
+  where
+    its : ℕ → Load
+    its number = loadOf (f (number - 1))
+
+    rest : List Entry
+    rest = recordsFrom f (suc i) count
+
+    go : (on : Bool) → loadsOn n rest ≡ map its (numbersOn n (suc (suc i)) rest)
+        → cond on (loadOf (f i) ∷ loadsOn n rest) (loadsOn n rest)
+        ≡ map its (cond on (suc i ∷ numbersOn n (suc (suc i)) rest) (numbersOn n (suc (suc i)) rest))
+    go true same = ap₂ (λ (k : ℕ) (loads : List Load). loadOf (f k) ∷ loads) (omega arith) same
+    go false same = same
+
+-- of a file's entries: the loads of a wall are those that have its numbers
+pub loads-are : (file : File) (n : ℕ)
+    → loadsOn n (entries file) ≡ map (λ number. loadOf (entryAt file (number - 1))) (numbersOn n 1 (entries file))
+unfolding entries
+loads-are file n = loads-from (entryAt file) n 0 (loadCount file)
+
+-- ---- where its numbers lie
+
+-- one of two tests holds where the second does
+or-right : (a b : Bool) → T b → T (a || b)
+or-right true b t = tt
+or-right false b t = t
+
+-- every element of a list is among them
+pub element-among : (ms : List ℕ) (k : ℕ) → k < length ms → T (among (getD ms k 0) ms)
+unfolding among
+element-among [] k h = absurd (omega arith)
+element-among (m ∷ ms) zero h = rw (eq-eqb m m refl) tt
+element-among (m ∷ ms) (suc k) h = or-right (eqb (getD ms k 0) m) (among (getD ms k 0) ms) (element-among ms k (omega arith))
+
+-- a number of a wall is the first entry's, which then names the wall, or it is a later entry's
+first-or-later : {P : Type 0} (n first : ℕ) (e : Entry) (es : List Entry) (m : ℕ) → T (among m (numbersOn n first (e ∷ es)))
+    → (m ≡ first → wallOf e ≡ n → P) → (T (among m (numbersOn n (suc first) es)) → P) → P
+unfolding among numbersOn
+first-or-later {P} n first e es m t here later = go (eqb (wallOf e) n) refl t
+  where
+    rest : List ℕ
+    rest = numbersOn n (suc first) es
+
+    go : (on : Bool) → eqb (wallOf e) n ≡ on → T (among m (cond on (first ∷ rest) rest)) → P
+    go true on t = either (eqb m first) (among m rest) t (λ same. here (eqb→eq m first same) (eqb-true (wallOf e) n on)) later
+    go false on t = later t
+
+-- and the later entries' numbers stay numbers of the wall
+later-too : (n first : ℕ) (e : Entry) (es : List Entry) (m : ℕ) → T (among m (numbersOn n (suc first) es)) → T (among m (numbersOn n first (e ∷ es)))
+unfolding among numbersOn
+later-too n first e es m t = go (eqb (wallOf e) n)
+  where
+    rest : List ℕ
+    rest = numbersOn n (suc first) es
+
+    go : (on : Bool) → T (among m (cond on (first ∷ rest) rest))
+    go true = or-right (eqb m first) (among m rest) t
+    go false = t
+
+-- a number of a wall is no lower than the first entry's, and no higher than the last one's
+numbers-between : (n first : ℕ) (es : List Entry) (m : ℕ) → T (among m (numbersOn n first es)) → (first ≤ m) × (m < first + length es)
+unfolding among numbersOn
+numbers-between n first [] m t = absurd t
+numbers-between n first (e ∷ es) m t =
+    first-or-later n first e es m t (λ same on. omega arith) (λ later. omega (arith, numbers-between n (suc first) es m later))
+
+-- a wall's numbers ascend, and so its loads keep the order of the file
+pub numbers-ascend : (n first : ℕ) (es : List Entry) (j k : ℕ) → j < k → k < length (numbersOn n first es)
+    → getD (numbersOn n first es) j 0 < getD (numbersOn n first es) k 0
+unfolding numbersOn
+numbers-ascend n first [] = λ j k less h. absurd (omega arith)
+numbers-ascend n first (e ∷ es) = go (eqb (wallOf e) n) (numbers-ascend n (suc first) es)
+  where
+    rest : List ℕ
+    rest = numbersOn n (suc first) es
+
+    go : (on : Bool) → ((j k : ℕ) → j < k → k < length rest → getD rest j 0 < getD rest k 0)
+        → (j k : ℕ) → j < k → k < length (cond on (first ∷ rest) rest) → getD (cond on (first ∷ rest) rest) j 0 < getD (cond on (first ∷ rest) rest) k 0
+    go true ascend j zero less h = absurd (omega arith)
+    go true ascend zero (suc k) less h = numbers-between n (suc first) es (getD rest k 0) (element-among rest k (omega arith)) .0
+    go true ascend (suc j) (suc k) less h = ascend j k (omega arith) (omega arith)
+    go false ascend j k less h = ascend j k less h
+
+-- every number of a wall is the number of a load of the file
+pub number-in : (file : File) (n m : ℕ) → T (among m (numbersOn n 1 (entries file))) → (1 ≤ m) × (m ≤ loadCount file)
+number-in file n m t = omega (arith, entries-length file, numbers-between n 1 (entries file) m t)
+
+-- ---- one wall for each load
+
+-- an entry's number is among those of the wall that it names
+number-there : (n first : ℕ) (es : List Entry) (k : ℕ) → k < length es → wallOf (getD es k []) ≡ n → T (among (first + k) (numbersOn n first es))
+unfolding among numbersOn
+number-there n first [] k h its = absurd (omega arith)
+number-there n first (e ∷ es) zero h its =
+    let here : first + 0 ≡ first = omega arith in rw (eq-eqb (wallOf e) n its, here, eq-eqb first first refl) tt
+number-there n first (e ∷ es) (suc k) h its =
+    let further : first + suc k ≡ suc first + k = omega arith in
+    later-too n first e es (first + suc k) (rw further (number-there n (suc first) es k (omega arith) its))
+
+-- and where it is among a wall's numbers, the entry names that wall
+named : (n first : ℕ) (es : List Entry) (k : ℕ) → k < length es → T (among (first + k) (numbersOn n first es)) → n ≡ wallOf (getD es k [])
+named n first [] k h t = absurd (omega arith)
+named n first (e ∷ es) zero h t =
+    first-or-later n first e es (first + 0) t (λ same on. sym on) (λ later. absurd (omega (arith, numbers-between n (suc first) es (first + 0) later)))
+named n first (e ∷ es) (suc k) h t =
+    let further : first + suc k ≡ suc first + k = omega arith in
+    first-or-later n first e es (first + suc k) t (λ same on. absurd (omega arith)) (λ later. named n (suc first) es k (omega arith) (rw further at later))
+
+-- a load's number is among those of the wall that it names
+pub on-its-wall : (file : File) (k : ℕ) → k < loadCount file → T (among (suc k) (numbersOn (wallOf (entryAt file k)) 1 (entries file)))
+on-its-wall file k h =
+    let number : 1 + k ≡ suc k = omega arith in
+    rw number at (number-there (wallOf (entryAt file k)) 1 (entries file) k (rw entries-length h) (ap wallOf (entry-at file k h)))
+
+-- and among no other wall's
+pub on-no-other : (file : File) (k n : ℕ) → k < loadCount file → T (among (suc k) (numbersOn n 1 (entries file))) → n ≡ wallOf (entryAt file k)
+on-no-other file k n h t =
+    let number : suc k ≡ 1 + k = omega arith in
+    named n 1 (entries file) k (rw entries-length h) (rw number at t) ∙ ap wallOf (entry-at file k h)
+
+-- the one wall that a load is on
+pub record OnOneWall (file : File) (k : ℕ) : Type 0 where
+  pub wall : ℕ
+  pub there : (1 ≤ wall) × (wall ≤ wallCount file)
+  pub has : T (among (suc k) (numbersOn wall 1 (entries file)))
+  pub only : (n : ℕ) → T (among (suc k) (numbersOn n 1 (entries file))) → n ≡ wall
+
+-- every load of an accepted file is on exactly one wall
+pub on-one-wall : (file : File) → T (accepted file) → (k : ℕ) → k < loadCount file → OnOneWall file k
+on-one-wall file t k h =
+    record {
+      wall = wallOf (entryAt file k);
+      there = load-has-wall file t k h;
+      has = on-its-wall file k h;
+      only = λ n. on-no-other file k n h;
+    }
+
+-- ---- each load counted once in all
+
+-- the sum of f 0, f 1 and so on, n of them
+unfoldable pub total : (ℕ → ℕ) → ℕ → ℕ
+total f zero = 0
+total f (suc n) = total f n + f n
+
+-- sums may be added term by term
+total-add : (f g : ℕ → ℕ) (n : ℕ) → total (λ i. f i + g i) n ≡ total f n + total g n
+unfolding total
+total-add f g zero = refl
+total-add f g (suc n) = omega (arith, total-add f g n)
+
+-- where every term is 0, the sum is
+total-none : (f : ℕ → ℕ) (n : ℕ) → ((i : ℕ) → i < n → f i ≡ 0) → total f n ≡ 0
+unfolding total
+total-none f zero none = refl
+total-none f (suc n) none = omega (arith, total-none f n (λ i h. none i (omega arith)), none n (omega arith))
+
+-- 1 at the index of wall number m, and 0 at every other
+abbrev tally : ℕ → ℕ → ℕ
+tally m i = cond (eqb m (suc i)) 1 0
+
+-- of n walls, one has the number m, where that is from 1 to n
+one-has : (m n : ℕ) → 1 ≤ m → m ≤ n → total (tally m) n ≡ 1
+unfolding total
+one-has m zero low high = absurd (omega arith)
+one-has m (suc n) low high = go (eqb m (suc n)) refl (one-has m n low)
+  where
+    go : (last : Bool) → eqb m (suc n) ≡ last → (m ≤ n → total (tally m) n ≡ 1) → total (tally m) n + cond last 1 0 ≡ 1
+    go true last rest =
+        let same = eqb-true m (suc n) last in
+        let none = total-none (tally m) n (λ i h. rw (ne-eqb m (suc i) (λ e. omega arith))) in
+        omega arith
+    go false last rest = omega (arith, rest (omega (arith, eqb-false m (suc n) last)))
+
+-- one more entry is a load more on the wall that it names
+counted : (n : ℕ) (e : Entry) (es : List Entry) → length (loadsOn n (e ∷ es)) ≡ cond (eqb (wallOf e) n) 1 0 + length (loadsOn n es)
+unfolding loadsOn
+counted n e es = go (eqb (wallOf e) n)
+  where
+    go : (on : Bool) → length (cond on (loadOf e ∷ loadsOn n es) (loadsOn n es)) ≡ cond on 1 0 + length (loadsOn n es)
+    go true = omega arith
+    go false = omega arith
+
+-- where every entry names one of n walls, the loads of these are as many as the entries
+all-counted : (n : ℕ) (es : List Entry) → ((k : ℕ) → k < length es → (1 ≤ wallOf (getD es k [])) × (wallOf (getD es k []) ≤ n))
+    → total (λ i. length (loadsOn (suc i) es)) n ≡ length es
+unfolding loadsOn
+all-counted n [] there = total-none (λ i. 0) n (λ i h. refl)
+all-counted n (e ∷ es) there =
+    let one = one-has (wallOf e) n (there 0 (omega arith) .0) (there 0 (omega arith) .1) in
+    let rest = all-counted n es (λ k h. there (suc k) (omega arith)) in
+    ap (λ (f : ℕ → ℕ). total f n) (fun-ext (λ i. counted (suc i) e es))
+    ∙ total-add (tally (wallOf e)) (λ i. length (loadsOn (suc i) es)) n
+    ∙ omega arith
+
+-- the loads of all walls of an accepted file are together as many as the file has
+pub each-once : (file : File) → T (accepted file) → total (λ i. length (loadsOn (suc i) (entries file))) (wallCount file) ≡ loadCount file
+each-once file t = all-counted (wallCount file) (entries file) there ∙ entries-length file
+  where
+    there : (k : ℕ) → k < length (entries file) → (1 ≤ wallOf (getD (entries file) k [])) × (wallOf (getD (entries file) k []) ≤ wallCount file)
+    there k h = let within : k < loadCount file = rw entries-length at h in rw (entry-at file k) (load-has-wall file t k within)
