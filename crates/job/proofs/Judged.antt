@@ -1,11 +1,11 @@
 -- Walls and loads are judged one after the other, in file order: what one step of either test tells, and how a count for each wall goes along.
-use mathlib.Core.Path.{_≡_, refl, _∙_}
+use mathlib.Core.Path.{_≡_, refl, sym, _∙_}
 use mathlib.Core.Bool.{Bool, true, false, cond}
 use mathlib.Core.List.{List, [], _∷_, _++_}
 use Prim.Native.Nat.{ℕ, suc, _+_, _-_, _≤_, _<_}
 use native.Mathlib.Omega.{arith}
-use borrow.Author.Tests.{eq-eqb, ne-eqb, eqb-true, eqb-false}
-use lib.Dec.{T, leb, eqb, leb→le}
+use borrow.Author.Tests.{eqb-true, eqb-false}
+use lib.Dec.{leb, eqb, leb→le}
 use lib.ListN.{length, getD, set, replicate, length-set, length-append, getD-replicate}
 use lib.Seq.{getD-set-same, getD-set-other}
 use Rattle.rules.specs.declared.Answer.{Answer}
@@ -48,15 +48,17 @@ module _ (file : File) (n i : ℕ) where
 
 -- ---- loads
 
--- what is answered from the load at an index on, of n loads, behind those that were passed
+-- the loads before an index
 abbrev pub passedLoads : File → ℕ → List Entry
 passedLoads file i = recordsFrom (entryAt file) 0 i
 
+-- the next one stands behind them
+pub one-passed : (file : File) (i : ℕ) (entry : Entry) → entry ≡ entryAt file i → passedLoads file (suc i) ≡ passedLoads file i ++ entry ∷ []
+one-passed file i entry its = let e : 0 + i ≡ i = omega arith in rw (records-more, e, its)
+
+-- what is answered from the load at an index on, of n loads, behind those that were passed
 abbrev pub fromLoad : File → ℕ → ℕ → Answer
 fromLoad file n i = firstBadLoad (walls file) (passedLoads file i) (suc i) (recordsFrom (entryAt file) i (n - i))
-
-one-passed : (file : File) (i : ℕ) (entry : Entry) → entry ≡ entryAt file i → passedLoads file (suc i) ≡ passedLoads file i ++ entry ∷ []
-one-passed file i entry its = let e : 0 + i ≡ i = omega arith in rw (records-more, e, its)
 
 module _ (file : File) (n i : ℕ) where
   -- that load is out of range, or its wall isn't there
@@ -81,56 +83,54 @@ module _ (file : File) (n i : ℕ) where
   loads-passed e = rw (e, records-none (entryAt file) n)
 
 -- a load that fits is on one of the walls that there are
-pub has-wall : (file : File) (entry : Entry) → entryFits (walls file) entry ≡ true → (1 ≤ wallOf entry) × (wallOf entry ≤ wallCount file)
+pub has-wall : (file : File) (entry : Entry) → entryFits (walls file) entry ≡ true → wallOf entry ≤ wallCount file
 unfolding entryFits
 has-wall file entry e =
     let n = wallOf entry in
-    let there = isThere n (walls file) in
-    let h = both (leb 1 n) (leb n (length (walls file))) (both there (loadFits (numbered n (walls file)) (loadOf entry)) (rw e tt) .0) in
-    (leb→le 1 n (h .0), rw walls-length at (leb→le n (length (walls file)) (h .1)))
+    let there = both (isThere n (walls file)) (loadFits (numbered n (walls file)) (loadOf entry)) (rw e tt) .0 in
+    rw walls-length at (leb→le n (length (walls file)) (both (leb 1 n) (leb n (length (walls file))) there .1))
 
--- ---- a count for each wall
+-- ---- a count for each wall number
 
 -- how many of some entries are on each wall
 pub record Counted (counts : List ℕ) (es : List Entry) : Type 0 where
-  pub size : length counts ≡ mostWalls
-  pub count : (w : ℕ) → w < mostWalls → getD counts w 0 ≡ length (loadsOn (suc w) es)
+  pub size : length counts ≡ suc mostWalls
+  pub count : (n : ℕ) → n ≤ mostWalls → getD counts n 0 ≡ length (loadsOn n es)
 
 -- none at first
-pub none-counted : Counted (replicate mostWalls 0) []
+pub none-counted : Counted (replicate (suc mostWalls) 0) []
 unfolding loadsOn
-none-counted = record { size = refl; count = λ w h. getD-replicate mostWalls w 0 0 h }
+none-counted = record { size = refl; count = λ n h. getD-replicate (suc mostWalls) n 0 0 (omega arith) }
 
 -- one more entry is one more on its wall, and none on any other
-one-counted : (counts : List ℕ) (es : List Entry) (e : Entry) (w : ℕ) → wallOf e ≡ suc w → w < mostWalls → Counted counts es
-    → Counted (set counts w (getD counts w 0 + 1)) (es ++ e ∷ [])
+one-counted : (counts : List ℕ) (es : List Entry) (e : Entry) → wallOf e ≤ mostWalls → Counted counts es
+    → Counted (set counts (wallOf e) (getD counts (wallOf e) 0 + 1)) (es ++ e ∷ [])
 unfolding loadsOn
-one-counted counts es e w its h counted = record { size = length-set counts w (getD counts w 0 + 1) ∙ counted .size; count = count }
+one-counted counts es e h counted = record { size = length-set counts (wallOf e) (getD counts (wallOf e) 0 + 1) ∙ counted .size; count = count }
   where
+    its : ℕ
+    its = wallOf e
+
     more : List ℕ
-    more = set counts w (getD counts w 0 + 1)
+    more = set counts its (getD counts its 0 + 1)
 
-    go : (v : ℕ) (same : Bool) → eqb v w ≡ same → v < mostWalls
-        → getD more v 0 ≡ length (loadsOn (suc v) es) + length (cond (eqb (wallOf e) (suc v)) (loadOf e ∷ []) [])
-    go v true same k =
-        let at = getD-set-same counts w (getD counts w 0 + 1) 0 (omega (arith, counted .size)) in
-        rw (eqb-true v w same, at, eq-eqb (wallOf e) (suc w) its, counted .count w h) (omega arith)
-    go v false same k =
-        let other = eqb-false v w same in
-        rw (getD-set-other counts w v (getD counts w 0 + 1) 0 other, ne-eqb (wallOf e) (suc v) (λ z. other (omega arith)), counted .count v k) (omega arith)
+    go : (n : ℕ) (on : Bool) → eqb its n ≡ on → n ≤ mostWalls → getD more n 0 ≡ length (loadsOn n es) + length (cond on (loadOf e ∷ []) [])
+    go n true on k =
+        let at = getD-set-same counts its (getD counts its 0 + 1) 0 (omega (arith, counted .size)) in
+        rw (← eqb-true its n on, at, counted .count its h) (omega arith)
+    go n false on k =
+        let other = getD-set-other counts its n (getD counts its 0 + 1) 0 (λ same. eqb-false its n on (sym same)) in
+        rw (other, counted .count n k) (omega arith)
 
-    count : (v : ℕ) → v < mostWalls → getD more v 0 ≡ length (loadsOn (suc v) (es ++ e ∷ []))
-    count v k = rw (loads-join (suc v) es (e ∷ []), length-append) (go v (eqb v w) refl k)
+    count : (n : ℕ) → n ≤ mostWalls → getD more n 0 ≡ length (loadsOn n (es ++ e ∷ []))
+    count n k = rw (loads-join n es (e ∷ []), length-append) (go n (eqb its n) refl k)
 
-module _ (file : File) (i : ℕ) (counts : List ℕ) (entry : Entry) (on : (1 ≤ wallOf entry) × (wallOf entry ≤ mostWalls)) (counted : Counted counts (passedLoads file i)) where
-  index : wallOf entry ≡ suc (wallOf entry - 1)
-  index = omega arith
-
+module _ (file : File) (i : ℕ) (counts : List ℕ) (entry : Entry) (on : wallOf entry ≤ mostWalls) (counted : Counted counts (passedLoads file i)) where
   -- the next load is counted
-  pub next-counted : entry ≡ entryAt file i → Counted (set counts (wallOf entry - 1) (getD counts (wallOf entry - 1) 0 + 1)) (passedLoads file (suc i))
-  next-counted its = rw (one-passed file i entry its) (one-counted counts (passedLoads file i) entry (wallOf entry - 1) index (omega arith) counted)
+  pub next-counted : entry ≡ entryAt file i → Counted (set counts (wallOf entry) (getD counts (wallOf entry) 0 + 1)) (passedLoads file (suc i))
+  next-counted its = rw (one-passed file i entry its) (one-counted counts (passedLoads file i) entry on counted)
 
   -- whether it is one more than its wall may have, by the count
-  pub is-one-more : isOneMore (passedLoads file i) entry ≡ leb mostLoadsOnWall (getD counts (wallOf entry - 1) 0)
+  pub is-one-more : isOneMore (passedLoads file i) entry ≡ leb mostLoadsOnWall (getD counts (wallOf entry) 0)
   unfolding isOneMore
-  is-one-more = rw (counted .count (wallOf entry - 1) (omega arith), ← index)
+  is-one-more = rw (counted .count (wallOf entry) on)

@@ -21,6 +21,9 @@ pub const ENTRY_FIELDS: usize = 5;
 
 pub const ENTRY_BYTES: usize = 4 * ENTRY_FIELDS;
 
+// Where an entry has the number of its wall; the load is what stands behind.
+const WALL_NUMBER: usize = 0;
+
 // The edition that is read.
 const EDITION: u16 = 1;
 
@@ -139,7 +142,7 @@ pub fn places(file: &[u8]) -> [[u32; MOST_LOADS_ON_WALL]; MOST_WALLS]
     let loads = load_count(file) as u32;
     for i in 0..loads {
         let entry = entry_at(file, i);
-        let wall = entry[0];
+        let wall = entry[WALL_NUMBER];
         if 1 <= wall && wall <= MOST_WALLS as u32 {
             let index = (wall - 1) as usize;
             table[index] = with_place(table[index], i + 1);
@@ -166,16 +169,20 @@ pub fn loads_at(
 pub fn first_refusal(file: &[u8]) -> Answer
     ensures { λ r. ⌜ r ≡ firstRefusal (now (file .entry)) ⌝ }
 {
-    if file.len() < HEADER_BYTES {
+    let too_short = file.len() < HEADER_BYTES;
+    let wrong_edition = edition(file) != EDITION;
+    let count_out_of_range = !refusals::counts_fit(file);
+    let wrong_offset_or_length = !refusals::offsets_and_length_fit(file);
+    if too_short {
         return Answer::TooShort;
     }
-    if edition(file) != EDITION {
+    if wrong_edition {
         return Answer::WrongEdition;
     }
-    if !refusals::counts_fit(file) {
+    if count_out_of_range {
         return Answer::CountOutOfRange;
     }
-    if !refusals::offsets_and_length_fit(file) {
+    if wrong_offset_or_length {
         return Answer::WrongOffsetOrLength;
     }
     let walls = refusals::first_bad_wall(file);

@@ -1,18 +1,21 @@
-// Document 01, "What is answered": tests 3 to 7. A file that gets to the loads has no more walls than a file may have.
+// Document 01, "What is answered": tests 3 to 7, each by itself.
 use crate::ENTRY_BYTES;
 use crate::ENTRY_FIELDS;
 use crate::HEADER_BYTES;
 use crate::MOST_LOADS;
 use crate::MOST_LOADS_ON_WALL;
 use crate::MOST_WALLS;
-use record::FIELDS;
+use crate::WALL_NUMBER;
 use rules::Answer;
 ghost use mathlib.Core.Path.{_≡_};
-ghost use Prim.Native.Nat.{_≤_};
-ghost use Rattle.rules.specs.JobFile.{wallCount, mostWalls, walls, entries};
-ghost use Rattle.rules.specs.Answered.{isWorked, countsFit, offsetsAndLengthFit, firstBadWall, entryFits, firstBadLoad};
 ghost use mathlib.Core.List.{[]};
+ghost use Prim.Native.Nat.{_≤_};
+ghost use lib.Dec.{leb};
+ghost use lib.ListN.{getD};
+ghost use Rattle.rules.specs.JobFile.{wallCount, mostWalls, mostLoadsOnWall, walls, entries};
+ghost use Rattle.rules.specs.Answered.{isWorked, countsFit, offsetsAndLengthFit, firstBadWall, entryFits, firstBadLoad};
 
+// Is it no refusal?
 pub fn is_worked(answer: Answer) -> bool
     ensures { λ r. ⌜ r ≡ isWorked answer ⌝ }
 {
@@ -22,6 +25,7 @@ pub fn is_worked(answer: Answer) -> bool
     }
 }
 
+// 3: are both counts within range?
 pub fn counts_fit(file: &[u8]) -> bool
     ensures { λ r. ⌜ r ≡ countsFit (now (file .entry)) ⌝ }
 {
@@ -35,11 +39,13 @@ pub fn counts_fit(file: &[u8]) -> bool
     crate::load_count(file) as usize <= MOST_LOADS
 }
 
+// 4: are both offsets and the length those that the counts give, and is the length the input's?
 pub fn offsets_and_length_fit(file: &[u8]) -> bool
     ensures { λ r. ⌜ r ≡ offsetsAndLengthFit (now (file .entry)) ⌝ }
 {
     let first_load = crate::entries_at(file);
     let length = crate::whole_length(file) as usize;
+    let input = file.len();
     if crate::first_wall_offset(file) as usize != HEADER_BYTES {
         return false;
     }
@@ -49,9 +55,10 @@ pub fn offsets_and_length_fit(file: &[u8]) -> bool
     if length != first_load + ENTRY_BYTES * (crate::load_count(file) as usize) {
         return false;
     }
-    length == file.len()
+    length == input
 }
 
+// 5: the first wall with a field out of range.
 pub fn first_bad_wall(file: &[u8]) -> Answer
     ensures { λ r. ⌜ r ≡ firstBadWall 1 (walls (now (file .entry))) ⌝ }
 {
@@ -65,11 +72,11 @@ pub fn first_bad_wall(file: &[u8]) -> Answer
     Answer::Worked
 }
 
-// Is there a wall that the entry's load is on, and does the load fit it?
+// 6: is there a wall that the entry's load is on, and does the load fit it?
 fn entry_fits(file: &[u8], entry: [u32; ENTRY_FIELDS]) -> bool
     ensures { λ r. ⌜ r ≡ entryFits (walls (now (file .entry))) entry ⌝ }
 {
-    let number = entry[0];
+    let number = entry[WALL_NUMBER];
     if number < 1 {
         return false;
     }
@@ -80,23 +87,41 @@ fn entry_fits(file: &[u8], entry: [u32; ENTRY_FIELDS]) -> bool
     record::load_fits(wall, crate::load_of(entry))
 }
 
+// A count for each wall number, from 0 on.
+const COUNTS: usize = MOST_WALLS + 1;
+
+// 7: has the wall with a number as many loads as it may have, by the counts?
+fn is_full(counts: [u32; COUNTS], number: u32) -> bool
+    ensures { λ r. ⌜ r ≡ leb mostLoadsOnWall (getD counts number 0) ⌝ }
+{
+    let n = number as usize;
+    if n < COUNTS {
+        return MOST_LOADS_ON_WALL as u32 <= counts[n];
+    }
+    false
+}
+
+// 6 and 7: the first load that is out of range, or is one more than its wall may have. The file has no more walls than it may have.
 pub fn first_bad_load(file: &[u8]) -> Answer
     requires { ⌜ wallCount (now file) ≤ mostWalls ⌝ }
     ensures { λ r. ⌜ r ≡ firstBadLoad (walls (now (file .entry))) [] 1 (entries (now (file .entry))) ⌝ }
 {
-    let count = crate::load_count(file) as u32;
-    let mut on_wall = [0usize; MOST_WALLS];
-    for i in 0..count {
+    let loads = crate::load_count(file) as u32;
+    let mut counts = [0u32; COUNTS];
+    for i in 0..loads {
         let entry = crate::entry_at(file, i);
-        if !entry_fits(file, entry) {
+        let number = entry[WALL_NUMBER];
+        let out_of_range = !entry_fits(file, entry);
+        let one_more = is_full(counts, number);
+        if out_of_range {
             return Answer::LoadOutOfRange(i + 1);
         }
-        let wall = entry[0] as usize - 1;
-        let passed = on_wall[wall];
-        if MOST_LOADS_ON_WALL <= passed {
+        if one_more {
             return Answer::NinthLoad(i + 1);
         }
-        on_wall[wall] = passed + 1;
+        let wall = number as usize;
+        let passed = counts[wall];
+        counts[wall] = passed + 1;
     }
     Answer::Worked
 }

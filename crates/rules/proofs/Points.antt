@@ -11,7 +11,7 @@ use Rattle.rules.specs.declared.Block.{Block}
 use Rattle.rules.specs.declared.Fraction.{Fraction}
 use Rattle.rules.specs.declared.Kind.{Kind}
 use Rattle.rules.specs.declared.Kind.the-variants.{Full, FromToe, NoBlock}
-use Rattle.rules.specs.JobFile.{Wall, activeCoefficient, waterHeight, u16At, u32At, u32sAt, edition, wallCount, firstWallOffset, loadCount, firstLoadOffset, wholeLength, entriesAt, wallAt, recordsFrom, walls, entries, loadsOn, baseLength, wallHeight, among, within, firstOutside, firstBadField, wallFits}
+use Rattle.rules.specs.JobFile.{Wall, activeCoefficient, waterHeight, u16At, u32At, u32sAt, entriesAt, wallAt, recordsFrom, walls, entries, loadsOn, baseLength, wallHeight, among, within, firstOutside, firstBadField, wallFits}
 use Rattle.rules.specs.Answered.{countsFit, offsetsAndLengthFit, firstBadWall, firstBadLoad, firstRefusal}
 use Rattle.rules.specs.Forces.{saturatedHeight, stemWeight, baseWeight, saturatedWeight, moistWeight, surchargeWeight, surchargePush, moistPush, moistPushBelow, saturatedPush, waterPush, weightRows, pushRows, loadTable, table, columnSum, totals, service, factored, passiveDepth, passive, lastingWeight, friction, isPropped, slides, proppingForce}
 use Rattle.rules.specs.Bearing.{serviceScale, isNone, isFull, isFromToe, isFromHeel, kindOf, ofKind, blockOf, reported, peak, given, blockUnder, serviceBlock, factoredBlock}

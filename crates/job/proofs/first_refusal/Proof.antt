@@ -1,49 +1,54 @@
 -- `job::first_refusal` meets its contract. Each answer follows from the tests that led to it.
 use mathlib.Core.Path.{sym, subst, _∙_}
 use borrow.Author.Needs.{needs}
-use borrow.Author.Tests.{lt-ltb, le-ltb, eq-eqb, ne-eqb, not-true, not-false}
+use borrow.Author.Tests.{not-true, not-false}
 use lib.Dec.{T}
 use Rattle.rules.specs.Answered.{firstRefusal}
 use Rattle.rules.proofs.AcceptedFile.{walls-counted}
 use Rattle.job.proofs.first_refusal.Statement.{statement}
 use Rattle.job.proofs.first_refusal.Tie as tie
 
-returns : tie.Need-returns
-unfolding firstRefusal
-returns c = rw (lt-ltb _ _ (c .if1 .taken))
-
 edition-requires : tie.Need-edition-requires
 edition-requires c κs = search needs
-
-returns-2 : tie.Need-returns-2
-unfolding firstRefusal
-returns-2 c = rw (le-ltb _ _ (c .before .before .if1 .left), ← c .before .edition .ensures, ne-eqb _ _ (c .if2 .taken))
 
 counts-fit-requires : tie.Need-counts-fit-requires
 counts-fit-requires c κs = search needs
 
+offsets-and-length-fit-requires : tie.Need-offsets-and-length-fit-requires
+offsets-and-length-fit-requires c κs = search needs
+
+returns : tie.Need-returns
+unfolding firstRefusal
+returns c = rw (c .if1 .taken)
+
+returns-2 : tie.Need-returns-2
+unfolding firstRefusal
+returns-2 c = let d = c .before .before in rw (c .before .if1 .left, ← d .before .before .edition .ensures, c .if2 .taken)
+
 returns-3 : tie.Need-returns-3
 unfolding firstRefusal
 returns-3 c =
+    let d = c .before .before .before in
     rw (
-      le-ltb _ _ (c .before .before .before .before .if1 .left),
-      ← c .before .before .before .edition .ensures,
-      eq-eqb _ _ (c .before .before .if2 .left),
-      sym (c .before .counts-fit .ensures) ∙ not-true _ (c .if3 .taken),
+      c .before .before .if1 .left,
+      ← d .before .before .edition .ensures,
+      c .before .if2 .left,
+      ← d .before .counts-fit .ensures,
+      c .if3 .taken,
     )
-
-offsets-and-length-fit-requires : tie.Need-offsets-and-length-fit-requires
-offsets-and-length-fit-requires c κs = search needs
 
 returns-4 : tie.Need-returns-4
 unfolding firstRefusal
 returns-4 c =
+    let d = c .before .before .before .before in
     rw (
-      le-ltb _ _ (c .before .before .before .before .before .before .if1 .left),
-      ← c .before .before .before .before .before .edition .ensures,
-      eq-eqb _ _ (c .before .before .before .before .if2 .left),
-      sym (c .before .before .before .counts-fit .ensures) ∙ not-false _ (c .before .before .if3 .left),
-      sym (c .before .offsets-and-length-fit .ensures) ∙ not-true _ (c .if4 .taken),
+      c .before .before .before .if1 .left,
+      ← d .before .before .edition .ensures,
+      c .before .before .if2 .left,
+      ← d .before .counts-fit .ensures,
+      c .before .if3 .left,
+      ← d .offsets-and-length-fit .ensures,
+      c .if4 .taken,
     )
 
 first-bad-wall-requires : tie.Need-first-bad-wall-requires
@@ -55,30 +60,39 @@ is-worked-requires c κs = search needs
 returns-5 : tie.Need-returns-5
 unfolding firstRefusal
 returns-5 c =
+    let t = c .before .before .before in
+    let d = t .before .before .before .before in
     rw (
-      le-ltb _ _ (c .before .before .before .before .before .before .before .before .before .if1 .left),
-      ← c .before .before .before .before .before .before .before .before .edition .ensures,
-      eq-eqb _ _ (c .before .before .before .before .before .before .before .if2 .left),
-      sym (c .before .before .before .before .before .before .counts-fit .ensures) ∙ not-false _ (c .before .before .before .before .before .if3 .left),
-      sym (c .before .before .before .before .offsets-and-length-fit .ensures) ∙ not-false _ (c .before .before .before .if4 .left),
+      t .before .before .before .if1 .left,
+      ← d .before .before .edition .ensures,
+      t .before .before .if2 .left,
+      ← d .before .counts-fit .ensures,
+      t .before .if3 .left,
+      ← d .offsets-and-length-fit .ensures,
+      t .if4 .left,
       ← c .before .before .first-bad-wall .ensures,
       sym (c .before .is-worked .ensures) ∙ not-true _ (c .if5 .taken),
     )
 
 first-bad-load-requires : tie.Need-first-bad-load-requires
 first-bad-load-requires c κs =
-    let fits = sym (c .before .before .before .before .before .before .counts-fit .ensures) ∙ not-false _ (c .before .before .before .before .before .if3 .left) in
+    let t = c .before .before .before .before in
+    let fits = sym (t .before .before .before .before .counts-fit .ensures) ∙ not-false _ (t .if3 .left) in
     walls-counted _ (subst T (sym fits) tt) .1
 
 returns-6 : tie.Need-returns-6
 unfolding firstRefusal
 returns-6 c =
+    let t = c .before .before .before .before in
+    let d = t .before .before .before .before in
     rw (
-      le-ltb _ _ (c .before .before .before .before .before .before .before .before .before .before .if1 .left),
-      ← c .before .before .before .before .before .before .before .before .before .edition .ensures,
-      eq-eqb _ _ (c .before .before .before .before .before .before .before .before .if2 .left),
-      sym (c .before .before .before .before .before .before .before .counts-fit .ensures) ∙ not-false _ (c .before .before .before .before .before .before .if3 .left),
-      sym (c .before .before .before .before .before .offsets-and-length-fit .ensures) ∙ not-false _ (c .before .before .before .before .if4 .left),
+      t .before .before .before .if1 .left,
+      ← d .before .before .edition .ensures,
+      t .before .before .if2 .left,
+      ← d .before .counts-fit .ensures,
+      t .before .if3 .left,
+      ← d .offsets-and-length-fit .ensures,
+      t .if4 .left,
       ← c .before .before .before .first-bad-wall .ensures,
       sym (c .before .before .is-worked .ensures) ∙ not-false _ (c .before .if5 .left),
     )
@@ -88,12 +102,12 @@ pub first-refusal-spec : {M : Type 1} → statement M
 first-refusal-spec =
     tie.close
     (tie.spec
-    returns
     edition-requires
-    returns-2
     counts-fit-requires
-    returns-3
     offsets-and-length-fit-requires
+    returns
+    returns-2
+    returns-3
     returns-4
     first-bad-wall-requires
     is-worked-requires

@@ -1,37 +1,31 @@
 -- `job::places` meets its contract. The invariant: the table is that of the entries passed.
 use mathlib.Core.Path.{_≡_, refl, _∙_}
-use mathlib.Core.List.{List, [], _∷_, _++_}
+use mathlib.Core.List.{List, []}
 use mathlib.Core.Logic.{⊎-elim}
-use Prim.Native.Nat.{ℕ, _+_, _-_, _≤_}
+use Prim.Native.Nat.{ℕ, suc, _+_, _-_, _≤_}
 use native.Mathlib.Omega.{arith}
 use native.Mathlib.Numerals.{add-one}
 use borrow.Author.Tests.{leb-true, leb-false}
 use lib.ListN.{getD, set}
 use Rattle.rules.specs.JobFile.{File, Entry, mostWalls, entryAt, recordsFrom, entries, wallOf, numbersOn}
-use Rattle.rules.proofs.AcceptedFile.{records-length, records-more}
+use Rattle.rules.proofs.AcceptedFile.{records-length}
 use Rattle.job.specs.Places.{padded, placesOn, placeTable, withPlace}
+use Rattle.job.proofs.Judged.{passedLoads, one-passed}
 use Rattle.job.proofs.PlacesOfLoads.{in-table, not-in-table}
 use Rattle.job.proofs.places.Statement.{statement}
 use Rattle.job.proofs.places.Tie as tie
 
--- the entries before an index; the next one stands behind them
-abbrev passed : File → ℕ → List Entry
-passed file i = recordsFrom (entryAt file) 0 i
-
-more : (file : File) (i : ℕ) → passed file (i + 1) ≡ passed file i ++ entryAt file i ∷ []
-more file i = let index : 0 + i ≡ i = omega arith in rw (add-one, records-more, index)
-
 -- one entry is passed, whose wall has a row or has none
-module _ (file : File) (i : ℕ) (table : List (List ℕ)) (entry : Entry) (same : table ≡ placeTable (passed file i)) (here : entry ≡ entryAt file i) where
+module _ (file : File) (i : ℕ) (table : List (List ℕ)) (entry : Entry) (same : table ≡ placeTable (passedLoads file i)) (here : entry ≡ entryAt file i) where
   with-row : 1 ≤ wallOf entry → wallOf entry ≤ mostWalls → (row : List ℕ) → row ≡ withPlace (getD table (wallOf entry - 1) []) (i + 1)
-      → set table (wallOf entry - 1) row ≡ placeTable (passed file (i + 1))
-  with-row low high row e = rw (e, same, more, ← here) (rw records-length at (in-table (passed file i) entry low high))
+      → set table (wallOf entry - 1) row ≡ placeTable (passedLoads file (suc i))
+  with-row low high row e = rw (e, same, one-passed file i entry here) (rw records-length at (in-table (passedLoads file i) entry low high))
 
-  without : (1 ≤ wallOf entry → wallOf entry ≤ mostWalls → ⊥) → table ≡ placeTable (passed file (i + 1))
-  without out = rw (same, more, ← here) (not-in-table (passed file i) entry out)
+  without : (1 ≤ wallOf entry → wallOf entry ≤ mostWalls → ⊥) → table ≡ placeTable (passedLoads file (suc i))
+  without out = rw (same, one-passed file i entry here) (not-in-table (passedLoads file i) entry out)
 
 abbrev Inv-loop : tie.InvT-loop
-Inv-loop file table₀ loads i₀ table i = (i ≤ loads) × (table ≡ placeTable (passed file i))
+Inv-loop file table₀ loads i₀ table i = (i ≤ loads) × (table ≡ placeTable (passedLoads file i))
 
 abbrev μ-loop : tie.MeasureT-loop
 μ-loop file table₀ loads i₀ table i = loads - i
@@ -87,10 +81,10 @@ loop-again c =
     let same = c .before .before .before .loop .inv .1 in
     let here = c .before .entry-at .ensures in (
       omega arith,
-      ⊎-elim
+      rw add-one (⊎-elim
           (λ w. w .4 ∙ with-row _ _ _ _ same here (w .0 .taken) (leb-true _ _ (w .1 .taken)) _ (w .3 .ensures))
           (λ w. w .1 ∙ without _ _ _ _ same here (⊎-elim (λ v low high. omega (arith, leb-false)) (λ v low high. omega arith) (w .0 .came)))
-          (c .if1 .came),
+          (c .if1 .came)),
     )
 
 returns : tie.Need-returns Inv-loop μ-loop

@@ -2,12 +2,14 @@
 -- loads from the next one on.
 use mathlib.Core.Path.{_≡_, sym, _∙_}
 use mathlib.Core.Bool.{Bool, false, not}
-use mathlib.Core.List.{[]}
-use Prim.Native.Nat.{_-_, _≤_, _<_, _^_}
+use mathlib.Core.List.{List, []}
+use Prim.Native.Nat.{ℕ, _-_, _≤_, _<_, _^_}
 use native.Mathlib.Omega.{arith}
 use native.Mathlib.Numerals.{add-one}
-use borrow.Author.Tests.{le-leb, lt-leb, not-true, not-false}
-use Rattle.rules.specs.JobFile.{File, Entry, wallCount, mostWalls, recordsFrom, walls, entries, wallOf}
+use borrow.Author.Tests.{leb-false, not-true, not-false}
+use lib.Dec.{leb}
+use lib.ListN.{getD}
+use Rattle.rules.specs.JobFile.{File, Entry, wallCount, mostWalls, mostLoadsOnWall, recordsFrom, walls, entries, wallOf}
 use Rattle.rules.specs.Answered.{entryFits, firstBadLoad}
 use Rattle.job.proofs.Judged.{passedLoads, fromLoad, load-refused, load-is-ninth, load-passed, loads-passed, has-wall, Counted, none-counted, next-counted, is-one-more}
 use Rattle.job.proofs.refusals.first_bad_load.Statement.{statement}
@@ -15,21 +17,25 @@ use Rattle.job.proofs.refusals.first_bad_load.Tie as tie
 
 -- a load that fits is on one of the walls that are counted
 on-wall : (file : File) (entry : Entry) (fits : Bool) → fits ≡ entryFits (walls file) entry → not fits ≡ false → wallCount file ≤ mostWalls
-    → (1 ≤ wallOf entry) × (wallOf entry ≤ mostWalls)
+    → wallOf entry ≤ mostWalls
 on-wall file entry fits e left few = omega (arith, has-wall file entry (sym e ∙ not-false fits left))
 
+-- a wall that is not full has room
+has-room : (counts : List ℕ) (number : ℕ) (full : Bool) → full ≡ leb mostLoadsOnWall (getD counts number 0) → full ≡ false → getD counts number 0 < mostLoadsOnWall
+has-room counts number full e left = leb-false mostLoadsOnWall (getD counts number 0) (sym e ∙ left)
+
 abbrev Inv-loop : tie.InvT-loop
-Inv-loop file count on-wall₀ i₀ on-wall i =
-    (i ≤ count) × (count < 2 ^ 16) × Counted on-wall (passedLoads file i) × (firstBadLoad (walls file) [] 1 (entries file) ≡ fromLoad file count i)
+Inv-loop file loads counts₀ i₀ counts i =
+    (i ≤ loads) × (loads < 2 ^ 16) × Counted counts (passedLoads file i) × (firstBadLoad (walls file) [] 1 (entries file) ≡ fromLoad file loads i)
 
 abbrev μ-loop : tie.MeasureT-loop
-μ-loop file count on-wall₀ i₀ on-wall i = count - i
+μ-loop file loads counts₀ i₀ counts i = loads - i
 
 load-count-requires : tie.Need-load-count-requires Inv-loop μ-loop
 load-count-requires c κs = tt
 
-cast-count : tie.Need-cast-count Inv-loop μ-loop
-cast-count c = omega arith
+cast-loads : tie.Need-cast-loads Inv-loop μ-loop
+cast-loads c = omega arith
 
 loop-holds : tie.Need-loop-holds Inv-loop μ-loop
 unfolding entries recordsFrom
@@ -40,53 +46,57 @@ loop-holds c =
 entry-at-requires : tie.Need-entry-at-requires Inv-loop μ-loop
 entry-at-requires c κs = tt
 
+array-read-number : tie.Need-array-read-number Inv-loop μ-loop
+array-read-number c = omega arith
+
 entry-fits-requires : tie.Need-entry-fits-requires Inv-loop μ-loop
 entry-fits-requires c κs = tt
 
-add-t12 : tie.Need-add-t12 Inv-loop μ-loop
-add-t12 c = omega arith
+is-full-requires : tie.Need-is-full-requires Inv-loop μ-loop
+is-full-requires c κs = tt
+
+add-t18 : tie.Need-add-t18 Inv-loop μ-loop
+add-t18 c = omega arith
 
 returns : tie.Need-returns Inv-loop μ-loop
 returns c =
-    let outside = sym (c .before .entry-fits .ensures) ∙ not-true _ (c .if1 .taken) in
-    let step = load-refused _ _ _ _ (c .before .before .entry-at .ensures) (c .before .before .before .loop-test .taken) outside in
-    rw add-one (sym (c .before .before .before .before .loop .inv .3 ∙ step))
+    let outside = sym (c .before .before .entry-fits .ensures) ∙ not-true _ (c .if1 .taken) in
+    let step = load-refused _ _ _ _ (c .before .before .before .entry-at .ensures) (c .before .before .before .before .loop-test .taken) outside in
+    rw add-one (sym (c .before .before .before .before .before .loop .inv .3 ∙ step))
 
-array-read-wall : tie.Need-array-read-wall Inv-loop μ-loop
-array-read-wall c = omega arith
-
-cast-wall : tie.Need-cast-wall Inv-loop μ-loop
-cast-wall c = omega (arith, on-wall _ _ _ (c .before .entry-fits .ensures) (c .if1 .left) (c .before .before .before .before .before .before .before .pre))
-
-sub-wall : tie.Need-sub-wall Inv-loop μ-loop
-sub-wall c = omega (arith, on-wall _ _ _ (c .before .entry-fits .ensures) (c .if1 .left) (c .before .before .before .before .before .before .before .pre))
-
-mul-passed : tie.Need-mul-passed Inv-loop μ-loop
-mul-passed c = omega (arith, on-wall _ _ _ (c .before .entry-fits .ensures) (c .if1 .left) (c .before .before .before .before .before .before .before .pre))
-
-array-read-passed : tie.Need-array-read-passed Inv-loop μ-loop
-array-read-passed c = omega (arith, on-wall _ _ _ (c .before .entry-fits .ensures) (c .if1 .left) (c .before .before .before .before .before .before .before .pre))
-
-add-t20 : tie.Need-add-t20 Inv-loop μ-loop
-add-t20 c = omega arith
+add-t19 : tie.Need-add-t19 Inv-loop μ-loop
+add-t19 c = omega arith
 
 returns-2 : tie.Need-returns-2 Inv-loop μ-loop
 returns-2 c =
-    let d = c .before in
-    let on = on-wall _ _ _ (d .before .entry-fits .ensures) (d .if1 .left) (d .before .before .before .before .before .before .before .pre) in
-    let fits = sym (d .before .entry-fits .ensures) ∙ not-false _ (d .if1 .left) in
-    let more = is-one-more _ _ _ _ on (d .before .before .before .before .loop .inv .2) ∙ le-leb _ _ (c .if2 .taken) in
-    let step = load-is-ninth _ _ _ _ (d .before .before .entry-at .ensures) (d .before .before .before .loop-test .taken) fits more in
-    rw add-one (sym (d .before .before .before .before .loop .inv .3 ∙ step))
+    let on = on-wall _ _ _ (c .before .before .before .entry-fits .ensures) (c .before .if1 .left) (c .before .before .before .before .before .before .before .before .before .pre) in
+    let d = c .before .before .before in
+    let fits = sym (d .entry-fits .ensures) ∙ not-false _ (c .before .if1 .left) in
+    let counted = d .before .before .before .loop .inv .2 in
+    let more = is-one-more _ _ _ _ on counted ∙ sym (c .before .before .is-full .ensures) ∙ c .if2 .taken in
+    let step = load-is-ninth _ _ _ _ (d .before .entry-at .ensures) (d .before .before .loop-test .taken) fits more in
+    rw add-one (sym (d .before .before .before .loop .inv .3 ∙ step))
 
-add-on-wall : tie.Need-add-on-wall Inv-loop μ-loop
-add-on-wall c = omega arith
+cast-wall : tie.Need-cast-wall Inv-loop μ-loop
+cast-wall c = omega (arith, on-wall _ _ _ (c .before .before .before .entry-fits .ensures) (c .before .if1 .left) (c .before .before .before .before .before .before .before .before .before .pre))
 
-mul-on-wall : tie.Need-mul-on-wall Inv-loop μ-loop
-mul-on-wall c = omega (arith, on-wall _ _ _ (c .before .before .entry-fits .ensures) (c .before .if1 .left) (c .before .before .before .before .before .before .before .before .pre))
+mul-passed : tie.Need-mul-passed Inv-loop μ-loop
+mul-passed c = omega (arith, on-wall _ _ _ (c .before .before .before .entry-fits .ensures) (c .before .if1 .left) (c .before .before .before .before .before .before .before .before .before .pre))
 
-array-write-on-wall : tie.Need-array-write-on-wall Inv-loop μ-loop
-array-write-on-wall c = omega (arith, on-wall _ _ _ (c .before .before .entry-fits .ensures) (c .before .if1 .left) (c .before .before .before .before .before .before .before .before .pre))
+array-read-passed : tie.Need-array-read-passed Inv-loop μ-loop
+array-read-passed c = omega (arith, on-wall _ _ _ (c .before .before .before .entry-fits .ensures) (c .before .if1 .left) (c .before .before .before .before .before .before .before .before .before .pre))
+
+add-counts : tie.Need-add-counts Inv-loop μ-loop
+add-counts c =
+    let d = c .before .before .before in
+    let number = wallOf (d .before .entry-at .result) in
+    omega (arith, has-room (d .before .before .before .loop .counts) number _ (c .before .before .is-full .ensures) (c .if2 .left))
+
+mul-counts : tie.Need-mul-counts Inv-loop μ-loop
+mul-counts c = omega (arith, on-wall _ _ _ (c .before .before .before .entry-fits .ensures) (c .before .if1 .left) (c .before .before .before .before .before .before .before .before .before .pre))
+
+array-write-counts : tie.Need-array-write-counts Inv-loop μ-loop
+array-write-counts c = omega (arith, on-wall _ _ _ (c .before .before .before .entry-fits .ensures) (c .before .if1 .left) (c .before .before .before .before .before .before .before .before .before .pre))
 
 add-i : tie.Need-add-i Inv-loop μ-loop
 add-i c = omega arith
@@ -96,14 +106,14 @@ loop-less c = omega arith
 
 loop-again : tie.Need-loop-again Inv-loop μ-loop
 loop-again c =
-    let d = c .before in
-    let on = on-wall _ _ _ (d .before .entry-fits .ensures) (d .if1 .left) (d .before .before .before .before .before .before .before .pre) in
-    let fits = sym (d .before .entry-fits .ensures) ∙ not-false _ (d .if1 .left) in
-    let counted = d .before .before .before .before .loop .inv .2 in
-    let more = is-one-more _ _ _ _ on counted ∙ lt-leb _ _ (c .if2 .left) in
-    let step = load-passed _ _ _ _ (d .before .before .entry-at .ensures) (d .before .before .before .loop-test .taken) fits more in
-    let next = add-one (d .before .before .before .before .loop .i) in
-    (omega arith, omega arith, rw next (next-counted _ _ _ _ on counted (d .before .before .entry-at .ensures)), rw next (d .before .before .before .before .loop .inv .3 ∙ step))
+    let on = on-wall _ _ _ (c .before .before .before .entry-fits .ensures) (c .before .if1 .left) (c .before .before .before .before .before .before .before .before .before .pre) in
+    let d = c .before .before .before in
+    let fits = sym (d .entry-fits .ensures) ∙ not-false _ (c .before .if1 .left) in
+    let counted = d .before .before .before .loop .inv .2 in
+    let more = is-one-more _ _ _ _ on counted ∙ sym (c .before .before .is-full .ensures) ∙ c .if2 .left in
+    let step = load-passed _ _ _ _ (d .before .entry-at .ensures) (d .before .before .loop-test .taken) fits more in
+    let next = add-one (d .before .before .before .loop .i) in
+    (omega arith, omega arith, rw next (next-counted _ _ _ _ on counted (d .before .entry-at .ensures)), rw next (d .before .before .before .loop .inv .3 ∙ step))
 
 returns-3 : tie.Need-returns-3 Inv-loop μ-loop
 returns-3 c = sym (c .before .loop .inv .3 ∙ loads-passed _ _ _ (omega arith))
@@ -115,22 +125,22 @@ first-bad-load-spec =
     Inv-loop
     μ-loop
     load-count-requires
-    cast-count
+    cast-loads
     loop-holds
     entry-at-requires
+    array-read-number
     entry-fits-requires
-    add-t12
+    is-full-requires
+    add-t18
     returns
-    array-read-wall
+    add-t19
+    returns-2
     cast-wall
-    sub-wall
     mul-passed
     array-read-passed
-    add-t20
-    returns-2
-    add-on-wall
-    mul-on-wall
-    array-write-on-wall
+    add-counts
+    mul-counts
+    array-write-counts
     add-i
     loop-less
     loop-again
