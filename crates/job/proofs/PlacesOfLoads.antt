@@ -5,12 +5,13 @@ use mathlib.Core.Bool.{Bool, true, false, cond}
 use mathlib.Core.List.{List, [], _∷_, _++_, map, append-nil}
 use Prim.Native.Nat.{ℕ, zero, suc, _+_, _-_, _≤_, _<_}
 use native.Mathlib.Omega.{arith}
-use lib.Dec.{eqb}
+use lib.Dec.{T, eqb, leb·zero}
 use lib.ListN.{length, getD, set, replicate, length-set}
 use lib.Seq.{ext-getD, getD-set-same, getD-set-other}
 use borrow.Author.Tests.{eqb-true, eqb-false, eq-eqb, ne-eqb}
-use Rattle.rules.specs.JobFile.{File, Load, Entry, mostWalls, mostLoadsOnWall, entryAt, entries, wallOf, loadOf, loadsOn, numbersOn}
-use Rattle.rules.proofs.AcceptedFile.{records-length, record-at}
+use Rattle.rules.specs.JobFile.{File, Wall, Load, Entry, wallCount, mostWalls, mostLoadsOnWall, wallAt, entryAt, entries, wallOf, loadOf, loadsOn, numbersOn, reach, loadFits}
+use Rattle.rules.specs.Answered.{accepted}
+use Rattle.rules.proofs.AcceptedFile.{records-length, record-at, wall-count, loads-fit}
 use Rattle.rules.proofs.LoadsOfWalls.{loads-are}
 use Rattle.job.specs.Places.{padded, noLoad, placesOn, placeTable, withPlace, loadNumbered, loadsAt}
 
@@ -140,3 +141,29 @@ unfolding loadsAt loadNumbered placesOn
 loads-of-wall file n low high =
     let number : suc (n - 1) ≡ n = omega arith in
     rw (row-at (entries file) (n - 1) (omega arith), number, map-padded, loads-are, numbers-up, loads-at)
+
+-- ---- what is read of an accepted file
+
+-- an absent load is within its range against any wall
+absent-fits : (wall : Wall) → T (loadFits wall noLoad)
+unfolding loadFits
+absent-fits wall = rw (leb·zero (reach wall noLoad)) tt
+
+-- what each of a list has, and what stands for nothing has too, each of the list filled up has
+padded-has : {A : Type 0} (p : A → Bool) (none d : A) (n : ℕ) (xs : List A) → T (p none) → ((k : ℕ) → k < length xs → T (p (getD xs k d)))
+    → (k : ℕ) → T (p (getD (padded none n xs) k none))
+unfolding padded
+padded-has p none d zero xs has all k = has
+padded-has p none d (suc n) [] has all zero = has
+padded-has p none d (suc n) [] has all (suc k) = padded-has p none d n [] has all k
+padded-has p none d (suc n) (x ∷ xs) has all zero = all 0 (omega arith)
+padded-has p none d (suc n) (x ∷ xs) has all (suc k) = padded-has p none d n xs has (λ j h. all (suc j) (omega arith)) k
+
+-- every row that is read for a wall is within its range against that wall
+pub rows-fit : (file : File) → T (accepted file) → (i : ℕ) → i < wallCount file → (k : ℕ)
+    → T (loadFits (wallAt file i) (getD (loadsAt file (getD (placeTable (entries file)) i [])) k noLoad))
+rows-fit file t i h k =
+    let few = wall-count file t .1 in
+    let index : suc i - 1 ≡ i = omega arith in
+    let rows = rw index at (loads-of-wall file (suc i) (omega arith) (omega arith)) in
+    rw rows (padded-has (loadFits (wallAt file i)) noLoad [] mostLoadsOnWall (loadsOn (suc i) (entries file)) (absent-fits (wallAt file i)) (loads-fit file t i h) k)

@@ -3,7 +3,8 @@ use rules::Range;
 ghost use mathlib.Core.Path.{_≡_};
 ghost use Prim.Native.Nat.{_<_, _^_};
 ghost use lib.ListN.{getD};
-ghost use Rattle.rules.specs.JobFile.{baseLength, wallHeight, bars, among, within, firstBadField, wallFits, reach, loadFits};
+ghost use Rattle.rules.specs.declared.Range.the-variants.{ABar};
+ghost use Rattle.rules.specs.JobFile.{baseLength, wallHeight, wallFields, ranges, bars, among, within, firstBadField, wallFits, reach, loadFits};
 
 // A wall is a number for each of its fields, in file order.
 pub const FIELDS: usize = 31;
@@ -119,13 +120,20 @@ fn is_within(wall: [u32; FIELDS], range: Range, n: u32) -> bool
     }
 }
 
+// The range of the field at an index.
+fn range_at(i: usize) -> Range
+    requires { ⌜ i < wallFields ⌝ }
+    ensures { λ r. ⌜ r ≡ getD ranges i ABar ⌝ }
+{
+    RANGES[i]
+}
+
 // The number of the first field out of range, in field order; 0 where there is none.
 pub fn first_bad_field(wall: [u32; FIELDS]) -> usize
     ensures { λ r. ⌜ r ≡ firstBadField wall ⌝ }
 {
     for i in 0..FIELDS {
-        let range = RANGES[i];
-        if !is_within(wall, range, wall[i]) {
+        if !is_within(wall, range_at(i), wall[i]) {
             return i + 1;
         }
     }

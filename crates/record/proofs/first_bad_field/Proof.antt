@@ -1,5 +1,4 @@
--- `record::first_bad_field` meets its contract. The invariant: the first bad field is the first from the next one on. The code's table of
--- ranges is the one of the rules, which a comparison of the two, entry by entry, shows.
+-- `record::first_bad_field` meets its contract. The invariant: the first bad field is the first from the next one on.
 use mathlib.Core.Path.{_≡_, refl, sym, _∙_}
 use mathlib.Core.Bool.{true, false, cond}
 use Prim.Native.Nat.{ℕ, suc, _-_, _≤_, _<_}
@@ -9,39 +8,37 @@ use borrow.Author.Tests.{not-true, not-false}
 use lib.ListN.{drop, getD}
 use lib.Seq.{drop-cons}
 use Rattle.rules.specs.declared.Range.{Range}
-use Rattle.rules.specs.JobFile.{Wall, ranges, within, firstOutside, firstBadField}
+use Rattle.rules.specs.declared.Range.the-variants.{ABar}
+use Rattle.rules.specs.JobFile.{Wall, wallFields, ranges, within, firstOutside, firstBadField}
 use Rattle.record.proofs.first_bad_field.Statement.{statement}
 use Rattle.record.proofs.first_bad_field.Tie as tie
 
 -- one field is judged, and then those behind it
-module _ (wall : Wall) (i : ℕ) (d : Range) (h : i < 31) where
+module _ (wall : Wall) (i : ℕ) (range : Range) (its : range ≡ getD ranges i ABar) (h : i < wallFields) where
   next : firstOutside wall (suc i) (drop i ranges)
-      ≡ cond (within wall (getD ranges i d) (getD wall i 0)) (firstOutside wall (suc (suc i)) (drop (suc i) ranges)) (suc i)
+      ≡ cond (within wall range (getD wall i 0)) (firstOutside wall (suc (suc i)) (drop (suc i) ranges)) (suc i)
   unfolding firstOutside
-  next = let k : suc i - 1 ≡ i = omega arith in rw (drop-cons ranges i d h, k)
+  next = let k : suc i - 1 ≡ i = omega arith in rw (drop-cons ranges i ABar h, k, its)
 
-  stops : within wall (getD ranges i d) (getD wall i 0) ≡ false → firstOutside wall (suc i) (drop i ranges) ≡ suc i
+  stops : within wall range (getD wall i 0) ≡ false → firstOutside wall (suc i) (drop i ranges) ≡ suc i
   stops e = next ∙ rw e
 
-  goes-on : within wall (getD ranges i d) (getD wall i 0) ≡ true
+  goes-on : within wall range (getD wall i 0) ≡ true
       → firstOutside wall (suc i) (drop i ranges) ≡ firstOutside wall (suc (suc i)) (drop (suc i) ranges)
   goes-on e = next ∙ rw e
 
 abbrev Inv-loop : tie.InvT-loop
-Inv-loop wall i₀ i = (i ≤ 31) × (firstBadField wall ≡ firstOutside wall (suc i) (drop i ranges))
+Inv-loop wall i₀ i = (i ≤ wallFields) × (firstBadField wall ≡ firstOutside wall (suc i) (drop i ranges))
 
 abbrev μ-loop : tie.MeasureT-loop
-μ-loop wall i₀ i = 31 - i
+μ-loop wall i₀ i = wallFields - i
 
 loop-holds : tie.Need-loop-holds Inv-loop μ-loop
 unfolding firstBadField
 loop-holds c = (omega arith, refl)
 
-mul-range : tie.Need-mul-range Inv-loop μ-loop
-mul-range c = omega arith
-
-array-copy-out-range : tie.Need-array-copy-out-range Inv-loop μ-loop
-array-copy-out-range c = omega arith
+range-at-requires : tie.Need-range-at-requires Inv-loop μ-loop
+range-at-requires c κs = omega arith
 
 mul-is-within : tie.Need-mul-is-within Inv-loop μ-loop
 mul-is-within c = omega arith
@@ -58,8 +55,8 @@ add-result c = omega arith
 returns : tie.Need-returns Inv-loop μ-loop
 returns c =
     let outside = sym (c .before .is-within .ensures) ∙ not-true _ (c .if1 .taken) in
-    let e = stops _ _ _ (c .before .before .before .loop-test .taken) outside in
-    rw add-one (sym (c .before .before .before .before .loop .inv .1 ∙ e))
+    let step = stops _ _ _ (c .before .before .range-at .ensures) (c .before .before .before .loop-test .taken) outside in
+    rw add-one (sym (c .before .before .before .before .loop .inv .1 ∙ step))
 
 add-i : tie.Need-add-i Inv-loop μ-loop
 add-i c = omega arith
@@ -70,12 +67,12 @@ loop-less c = omega arith
 loop-again : tie.Need-loop-again Inv-loop μ-loop
 loop-again c =
     let inside = sym (c .before .is-within .ensures) ∙ not-false _ (c .if1 .left) in
-    let e = goes-on _ _ _ (c .before .before .before .loop-test .taken) inside in
-    (omega arith, rw add-one (c .before .before .before .before .loop .inv .1 ∙ e))
+    let step = goes-on _ _ _ (c .before .before .range-at .ensures) (c .before .before .before .loop-test .taken) inside in
+    (omega arith, rw add-one (c .before .before .before .before .loop .inv .1 ∙ step))
 
 returns-2 : tie.Need-returns-2 Inv-loop μ-loop
 unfolding firstOutside
-returns-2 c = let e : c .before .loop .i ≡ 31 = omega arith in sym (c .before .loop .inv .1 ∙ rw e)
+returns-2 c = let e : c .before .loop .i ≡ wallFields = omega arith in sym (c .before .loop .inv .1 ∙ rw e)
 
 pub first-bad-field-spec : {M : Type 1} → statement M
 first-bad-field-spec =
@@ -84,8 +81,7 @@ first-bad-field-spec =
     Inv-loop
     μ-loop
     loop-holds
-    mul-range
-    array-copy-out-range
+    range-at-requires
     mul-is-within
     array-read-is-within
     is-within-requires
