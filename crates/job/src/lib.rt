@@ -1,6 +1,8 @@
 // A job file taken apart: whatever its bytes are, there are numbers, records and a first refusal, or none.
 use record::FIELDS;
 use record::LOAD_FIELDS;
+use record::Load;
+use record::Wall;
 use rules::Answer;
 
 mod bytes;
@@ -33,6 +35,15 @@ pub const MOST_WALLS: usize = 64;
 pub const MOST_LOADS: usize = 512;
 
 pub const MOST_LOADS_ON_WALL: usize = 8;
+
+// An entry of the file; the loads of a wall; the numbers of these; and such a row for each wall.
+pub type Entry = [u32; ENTRY_FIELDS];
+
+pub type Loads = [Load; MOST_LOADS_ON_WALL];
+
+pub type Row = [u32; MOST_LOADS_ON_WALL];
+
+pub type Table = [Row; MOST_WALLS];
 
 // The six numbers of the header.
 pub fn edition(file: &[u8]) -> u16
@@ -72,7 +83,7 @@ pub fn whole_length(file: &[u8]) -> u16
 }
 
 // The wall at an index from 0.
-pub fn wall_at(file: &[u8], i: u32) -> [u32; FIELDS]
+pub fn wall_at(file: &[u8], i: u32) -> Wall
     ensures { λ r. ⌜ r ≡ wallAt (now (file .entry)) i ⌝ }
 {
     let at = HEADER_BYTES + WALL_BYTES * (i as usize);
@@ -91,7 +102,7 @@ fn entries_at(file: &[u8]) -> usize
 }
 
 // The entry at an index from 0: the number of a wall, and a load.
-pub fn entry_at(file: &[u8], i: u32) -> [u32; ENTRY_FIELDS]
+pub fn entry_at(file: &[u8], i: u32) -> Entry
     ensures { λ r. ⌜ r ≡ entryAt (now (file .entry)) i ⌝ }
 {
     let at = entries_at(file) + ENTRY_BYTES * (i as usize);
@@ -103,14 +114,14 @@ pub fn entry_at(file: &[u8], i: u32) -> [u32; ENTRY_FIELDS]
 }
 
 // An entry's load: everything but the number of its wall.
-fn load_of(entry: [u32; ENTRY_FIELDS]) -> [u32; LOAD_FIELDS]
+fn load_of(entry: Entry) -> Load
     ensures { λ r. ⌜ r ≡ loadOf entry ⌝ }
 {
     [entry[1], entry[2], entry[3], entry[4]]
 }
 
 // The load with a number, from 1; number 0 is no load.
-fn load_numbered(file: &[u8], number: u32) -> [u32; LOAD_FIELDS]
+fn load_numbered(file: &[u8], number: u32) -> Load
     ensures { λ r. ⌜ r ≡ loadNumbered (now (file .entry)) number ⌝ }
 {
     if number == 0 {
@@ -120,7 +131,7 @@ fn load_numbered(file: &[u8], number: u32) -> [u32; LOAD_FIELDS]
 }
 
 // A row of places with one more number in the first that is free; where none is, the row as it was.
-fn with_place(row: [u32; MOST_LOADS_ON_WALL], number: u32) -> [u32; MOST_LOADS_ON_WALL]
+fn with_place(row: Row, number: u32) -> Row
     ensures { λ r. ⌜ r ≡ withPlace row number ⌝ }
 {
     let mut places = row;
@@ -135,7 +146,7 @@ fn with_place(row: [u32; MOST_LOADS_ON_WALL], number: u32) -> [u32; MOST_LOADS_O
 
 // Where the loads of each wall stand, found in one pass: a row for each wall that a file may have, with the numbers of its loads in file
 // order, the first eight of them, and 0 after the last.
-pub fn places(file: &[u8]) -> [[u32; MOST_LOADS_ON_WALL]; MOST_WALLS]
+pub fn places(file: &[u8]) -> Table
     ensures { λ r. ⌜ r ≡ placeTable (entries (now (file .entry))) ⌝ }
 {
     let mut table = [[0u32; MOST_LOADS_ON_WALL]; MOST_WALLS];
@@ -152,15 +163,12 @@ pub fn places(file: &[u8]) -> [[u32; MOST_LOADS_ON_WALL]; MOST_WALLS]
 }
 
 // The loads of a wall, read at its row of places: rows of zeros after the last.
-pub fn loads_at(
-    file: &[u8],
-    places: [u32; MOST_LOADS_ON_WALL],
-) -> [[u32; LOAD_FIELDS]; MOST_LOADS_ON_WALL]
-    ensures { λ r. ⌜ r ≡ loadsAt (now (file .entry)) places ⌝ }
+pub fn loads_at(file: &[u8], row: Row) -> Loads
+    ensures { λ r. ⌜ r ≡ loadsAt (now (file .entry)) row ⌝ }
 {
     let mut loads = [[0u32; LOAD_FIELDS]; MOST_LOADS_ON_WALL];
     for k in 0..MOST_LOADS_ON_WALL {
-        loads[k] = load_numbered(file, places[k]);
+        loads[k] = load_numbered(file, row[k]);
     }
     loads
 }

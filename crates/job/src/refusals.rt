@@ -1,6 +1,6 @@
 // Document 01, "What is answered": tests 3 to 7, each by itself.
 use crate::ENTRY_BYTES;
-use crate::ENTRY_FIELDS;
+use crate::Entry;
 use crate::HEADER_BYTES;
 use crate::MOST_LOADS;
 use crate::MOST_LOADS_ON_WALL;
@@ -73,7 +73,7 @@ pub fn first_bad_wall(file: &[u8]) -> Answer
 }
 
 // 6: is there a wall that the entry's load is on, and does the load fit it?
-fn entry_fits(file: &[u8], entry: [u32; ENTRY_FIELDS]) -> bool
+fn entry_fits(file: &[u8], entry: Entry) -> bool
     ensures { λ r. ⌜ r ≡ entryFits (walls (now (file .entry))) entry ⌝ }
 {
     let number = entry[WALL_NUMBER];

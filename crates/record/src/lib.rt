@@ -9,6 +9,8 @@ ghost use Rattle.rules.specs.JobFile.{baseLength, wallHeight, wallFields, range
 // A wall is a number for each of its fields, in file order.
 pub const FIELDS: usize = 31;
 
+pub type Wall = [u32; FIELDS];
+
 // Where the fields stand that others are judged by.
 pub const STEM_HEIGHT: usize = 1;
 
@@ -22,6 +24,8 @@ pub const BASE_THICKNESS: usize = 5;
 
 // A load is its direction, its position, its dead and its live part.
 pub const LOAD_FIELDS: usize = 4;
+
+pub type Load = [u32; LOAD_FIELDS];
 
 pub const DIRECTION: usize = 0;
 
@@ -79,21 +83,21 @@ fn wide(n: u32) -> u64
 }
 
 // The field at an index; 0 behind the last.
-pub fn field(wall: [u32; FIELDS], i: usize) -> u64
+pub fn field(wall: Wall, i: usize) -> u64
     ensures { λ r. ⌜ (r ≡ getD wall i 0) × (r < 2 ^ 32) ⌝ }
 {
     if i < FIELDS { wide(wall[i]) } else { 0 }
 }
 
 // The base's length l: toe, stem and heel.
-pub fn base_length(wall: [u32; FIELDS]) -> u64
+pub fn base_length(wall: Wall) -> u64
     ensures { λ r. ⌜ r ≡ baseLength wall ⌝ }
 {
     field(wall, TOE_LENGTH) + field(wall, STEM_THICKNESS) + field(wall, HEEL_LENGTH)
 }
 
 // The wall's height h: stem and base.
-pub fn wall_height(wall: [u32; FIELDS]) -> u64
+pub fn wall_height(wall: Wall) -> u64
     ensures { λ r. ⌜ r ≡ wallHeight wall ⌝ }
 {
     field(wall, STEM_HEIGHT) + field(wall, BASE_THICKNESS)
@@ -110,7 +114,7 @@ fn is_bar(n: u32) -> bool
     false
 }
 
-fn is_within(wall: [u32; FIELDS], range: Range, n: u32) -> bool
+fn is_within(wall: Wall, range: Range, n: u32) -> bool
     ensures { λ r. ⌜ r ≡ within wall range n ⌝ }
 {
     match range {
@@ -129,7 +133,7 @@ fn range_at(i: usize) -> Range
 }
 
 // The number of the first field out of range, in field order; 0 where there is none.
-pub fn first_bad_field(wall: [u32; FIELDS]) -> usize
+pub fn first_bad_field(wall: Wall) -> usize
     ensures { λ r. ⌜ r ≡ firstBadField wall ⌝ }
 {
     for i in 0..FIELDS {
@@ -141,14 +145,14 @@ pub fn first_bad_field(wall: [u32; FIELDS]) -> usize
 }
 
 // Is every field within range?
-pub fn wall_fits(wall: [u32; FIELDS]) -> bool
+pub fn wall_fits(wall: Wall) -> bool
     ensures { λ r. ⌜ r ≡ wallFits wall ⌝ }
 {
     first_bad_field(wall) == 0
 }
 
 // How far a load can stand: a load down along the base, a horizontal one up the wall.
-fn reach_of(wall: [u32; FIELDS], load: [u32; LOAD_FIELDS]) -> u64
+fn reach_of(wall: Wall, load: Load) -> u64
     ensures { λ r. ⌜ r ≡ reach wall load ⌝ }
 {
     if load[DIRECTION] == 0 {
@@ -159,7 +163,7 @@ fn reach_of(wall: [u32; FIELDS], load: [u32; LOAD_FIELDS]) -> u64
 }
 
 // Is a load within range against its wall?
-pub fn load_fits(wall: [u32; FIELDS], load: [u32; LOAD_FIELDS]) -> bool
+pub fn load_fits(wall: Wall, load: Load) -> bool
     ensures { λ r. ⌜ r ≡ loadFits wall load ⌝ }
 {
     if 1 < load[DIRECTION] {

@@ -1,12 +1,24 @@
 -- `job::first_refusal` meets its contract. Each answer follows from the tests that led to it.
-use mathlib.Core.Path.{sym, subst, _∙_}
+use mathlib.Core.Path.{_≡_, sym, subst, _∙_}
+use mathlib.Core.Bool.{Bool, false, not}
+use mathlib.Core.List.{[]}
+use Prim.Native.Nat.{ℕ}
 use borrow.Author.Needs.{needs}
 use borrow.Author.Tests.{not-true, not-false}
-use lib.Dec.{T}
-use Rattle.rules.specs.Answered.{firstRefusal}
+use lib.Dec.{T, ltb, eqb}
+use lib.ListN.{length}
+use Rattle.rules.specs.JobFile.{File, edition, headerBytes, walls, entries}
+use Rattle.rules.specs.Answered.{_orElse_, countsFit, offsetsAndLengthFit, firstBadWall, firstBadLoad, firstRefusal}
 use Rattle.rules.proofs.AcceptedFile.{walls-counted}
 use Rattle.job.proofs.first_refusal.Statement.{statement}
 use Rattle.job.proofs.first_refusal.Tie as tie
+
+-- what is answered of a file whose header passes the first four tests
+past-header : (file : File) {number : ℕ} {counts offsets : Bool} → ltb (length file) headerBytes ≡ false → number ≡ edition file → not (eqb number 1) ≡ false
+    → counts ≡ countsFit file → not counts ≡ false → offsets ≡ offsetsAndLengthFit file → not offsets ≡ false
+    → firstRefusal file ≡ (firstBadWall 1 (walls file) orElse firstBadLoad (walls file) [] 1 (entries file))
+unfolding firstRefusal
+past-header file long same one fit in-range agree right = rw (long, ← same, one, ← fit, in-range, ← agree, right)
 
 edition-requires : tie.Need-edition-requires
 edition-requires c κs = search needs
@@ -58,21 +70,14 @@ is-worked-requires : tie.Need-is-worked-requires
 is-worked-requires c κs = search needs
 
 returns-5 : tie.Need-returns-5
-unfolding firstRefusal
 returns-5 c =
     let t = c .before .before .before in
     let d = t .before .before .before .before in
-    rw (
-      t .before .before .before .if1 .left,
-      ← d .before .before .edition .ensures,
-      t .before .before .if2 .left,
-      ← d .before .counts-fit .ensures,
-      t .before .if3 .left,
-      ← d .offsets-and-length-fit .ensures,
-      t .if4 .left,
-      ← c .before .before .first-bad-wall .ensures,
-      sym (c .before .is-worked .ensures) ∙ not-true _ (c .if5 .taken),
-    )
+    let past =
+    past-header _ (t .before .before .before .if1 .left) (d .before .before .edition .ensures) (t .before .before .if2 .left)
+    (d .before .counts-fit .ensures) (t .before .if3 .left) (d .offsets-and-length-fit .ensures) (t .if4 .left) in
+    let bad = sym (c .before .is-worked .ensures) ∙ not-true _ (c .if5 .taken) in
+    sym (past ∙ rw (← c .before .before .first-bad-wall .ensures, bad))
 
 first-bad-load-requires : tie.Need-first-bad-load-requires
 first-bad-load-requires c κs =
@@ -81,22 +86,14 @@ first-bad-load-requires c κs =
     walls-counted _ (subst T (sym fits) tt) .1
 
 returns-6 : tie.Need-returns-6
-unfolding firstRefusal
 returns-6 c =
     let t = c .before .before .before .before in
     let d = t .before .before .before .before in
-    rw (
-      t .before .before .before .if1 .left,
-      ← d .before .before .edition .ensures,
-      t .before .before .if2 .left,
-      ← d .before .counts-fit .ensures,
-      t .before .if3 .left,
-      ← d .offsets-and-length-fit .ensures,
-      t .if4 .left,
-      ← c .before .before .before .first-bad-wall .ensures,
-      sym (c .before .before .is-worked .ensures) ∙ not-false _ (c .before .if5 .left),
-    )
-    (c .first-bad-load .ensures)
+    let past =
+    past-header _ (t .before .before .before .if1 .left) (d .before .before .edition .ensures) (t .before .before .if2 .left)
+    (d .before .counts-fit .ensures) (t .before .if3 .left) (d .offsets-and-length-fit .ensures) (t .if4 .left) in
+    let good = sym (c .before .before .is-worked .ensures) ∙ not-false _ (c .before .if5 .left) in
+    sym (past ∙ rw (← c .before .before .before .first-bad-wall .ensures, good) (sym (c .first-bad-load .ensures)))
 
 pub first-refusal-spec : {M : Type 1} → statement M
 first-refusal-spec =

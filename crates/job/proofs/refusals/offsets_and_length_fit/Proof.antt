@@ -1,9 +1,22 @@
 -- `job::refusals::offsets_and_length_fit` meets its contract. Each answer follows from the tests that led to it.
+use mathlib.Core.Path.{_≡_, sym, _∙_}
+use mathlib.Core.Bool.{_&&_}
+use Prim.Native.Nat.{ℕ, _+_, _*_}
 use borrow.Author.Needs.{needs}
 use borrow.Author.Tests.{eq-eqb, ne-eqb}
+use lib.Dec.{eqb}
+use lib.ListN.{length}
+use Rattle.rules.specs.JobFile.{File, headerBytes, entryBytes, firstWallOffset, loadCount, firstLoadOffset, wholeLength, entriesAt}
 use Rattle.rules.specs.Answered.{offsetsAndLengthFit}
 use Rattle.job.proofs.refusals.offsets_and_length_fit.Statement.{statement}
 use Rattle.job.proofs.refusals.offsets_and_length_fit.Tie as tie
+
+-- what is left of the four tests once the two offsets are right
+last-two : (file : File) {wall load start whole loads : ℕ} → wall ≡ firstWallOffset file → wall ≡ headerBytes → load ≡ firstLoadOffset file
+    → start ≡ entriesAt file → load ≡ start → whole ≡ wholeLength file → loads ≡ loadCount file
+    → offsetsAndLengthFit file ≡ (eqb whole (start + entryBytes * loads) && eqb whole (length file))
+unfolding offsetsAndLengthFit
+last-two file wall right load start same whole loads = rw (← wall, eq-eqb _ _ right, ← load, ← start, eq-eqb _ _ same, ← whole, ← loads)
 
 entries-at-requires : tie.Need-entries-at-requires
 entries-at-requires c κs = search needs
@@ -54,32 +67,20 @@ add-if3 : tie.Need-add-if3
 add-if3 c = search needs
 
 returns-3 : tie.Need-returns-3
-unfolding offsetsAndLengthFit
 returns-3 c =
-    rw (
-      ← c .before .before .before .before .before .first-wall-offset .ensures,
-      eq-eqb _ _ (c .before .before .before .before .if1 .left),
-      ← c .before .before .before .first-load-offset .ensures,
-      ← c .before .before .before .before .before .before .before .entries-at .ensures .0,
-      eq-eqb _ _ (c .before .before .if2 .left),
-      ← c .before .before .before .before .before .before .whole-length .ensures,
-      ← c .before .load-count .ensures,
-      ne-eqb _ _ (c .if3 .taken),
-    )
+    let t = c .before .before in
+    let d = t .before .before .before in
+    let last = last-two _ (d .first-wall-offset .ensures) (t .before .before .if1 .left) (t .before .first-load-offset .ensures)
+    (d .before .before .entries-at .ensures .0) (t .if2 .left) (d .before .whole-length .ensures) (c .before .load-count .ensures) in
+    sym (last ∙ rw (ne-eqb _ _ (c .if3 .taken)))
 
 returns-4 : tie.Need-returns-4
-unfolding offsetsAndLengthFit
 returns-4 c =
-    rw (
-      ← c .before .before .before .before .before .first-wall-offset .ensures,
-      eq-eqb _ _ (c .before .before .before .before .if1 .left),
-      ← c .before .before .before .first-load-offset .ensures,
-      ← c .before .before .before .before .before .before .before .entries-at .ensures .0,
-      eq-eqb _ _ (c .before .before .if2 .left),
-      ← c .before .before .before .before .before .before .whole-length .ensures,
-      ← c .before .load-count .ensures,
-      eq-eqb _ _ (c .if3 .left),
-    )
+    let t = c .before .before in
+    let d = t .before .before .before in
+    let last = last-two _ (d .first-wall-offset .ensures) (t .before .before .if1 .left) (t .before .first-load-offset .ensures)
+    (d .before .before .entries-at .ensures .0) (t .if2 .left) (d .before .whole-length .ensures) (c .before .load-count .ensures) in
+    sym (last ∙ rw (eq-eqb _ _ (c .if3 .left)))
 
 pub offsets-and-length-fit-spec : {M : Type 1} → statement M
 offsets-and-length-fit-spec =
