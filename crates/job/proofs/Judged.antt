@@ -125,12 +125,13 @@ one-counted counts es e h counted = record { size = length-set counts (wallOf e)
     count : (n : ℕ) → n ≤ mostWalls → getD more n 0 ≡ length (loadsOn n (es ++ e ∷ []))
     count n k = rw (loads-join n es (e ∷ []), length-append) (go n (eqb its n) refl k)
 
-module _ (file : File) (i : ℕ) (counts : List ℕ) (entry : Entry) (on : wallOf entry ≤ mostWalls) (counted : Counted counts (passedLoads file i)) where
+module _ (file : File) (i : ℕ) (counts : List ℕ) (entry : Entry) (passed : ℕ) (counted : Counted counts (passedLoads file i))
+    (on : wallOf entry ≤ mostWalls) (its : passed ≡ getD counts (wallOf entry) 0) where
   -- the next load is counted
-  pub next-counted : entry ≡ entryAt file i → Counted (set counts (wallOf entry) (getD counts (wallOf entry) 0 + 1)) (passedLoads file (suc i))
-  next-counted its = rw (one-passed file i entry its) (one-counted counts (passedLoads file i) entry on counted)
+  pub next-counted : entry ≡ entryAt file i → Counted (set counts (wallOf entry) (passed + 1)) (passedLoads file (suc i))
+  next-counted next = rw (its, one-passed file i entry next) (one-counted counts (passedLoads file i) entry on counted)
 
   -- whether it is one more than its wall may have, by the count
-  pub is-one-more : isOneMore (passedLoads file i) entry ≡ leb mostLoadsOnWall (getD counts (wallOf entry) 0)
+  pub is-one-more : isOneMore (passedLoads file i) entry ≡ leb mostLoadsOnWall passed
   unfolding isOneMore
-  is-one-more = rw (counted .count (wallOf entry) on)
+  is-one-more = rw (its, counted .count (wallOf entry) on)

@@ -11,14 +11,14 @@ use lib.Seq.{ext-getD, getD-set-same, getD-set-other}
 use borrow.Author.Tests.{eqb-true, eqb-false, eq-eqb, ne-eqb}
 use Rattle.rules.specs.JobFile.{File, Wall, Load, Entry, wallCount, mostWalls, mostLoadsOnWall, wallAt, entryAt, entries, wallOf, loadOf, loadsOn, numbersOn, reach, loadFits}
 use Rattle.rules.specs.Answered.{accepted}
-use Rattle.rules.proofs.AcceptedFile.{records-length, record-at, wall-count, loads-fit}
+use Rattle.rules.proofs.AcceptedFile.{records-length, record-at, wall-count, loads-fit, few-loads}
 use Rattle.rules.proofs.LoadsOfWalls.{loads-are}
 use Rattle.job.specs.Places.{padded, noLoad, placesOn, placeTable, withPlace, loadNumbered, loadsAt}
 
 -- ---- filled up to a number
 
 -- behind the last comes what stands for nothing, as often as one is missing
-pub padded-is : {A : Type 0} (none : A) (n : ℕ) (xs : List A) → length xs ≤ n → padded none n xs ≡ xs ++ replicate (n - length xs) none
+padded-is : {A : Type 0} (none : A) (n : ℕ) (xs : List A) → length xs ≤ n → padded none n xs ≡ xs ++ replicate (n - length xs) none
 unfolding padded
 padded-is none zero [] h = refl
 padded-is none zero (x ∷ xs) h = absurd (omega arith)
@@ -134,13 +134,11 @@ loads-at : (file : File) (ks : List ℕ) → map (loadNumbered file) (map suc ks
 loads-at file [] = refl
 loads-at file (k ∷ ks) = ap₂ (λ (load : Load) (loads : List Load). load ∷ loads) (load-at file (suc k) (omega arith)) (loads-at file ks)
 
--- what is read at a wall's row are the wall's loads, in file order, and behind the last none
-pub loads-of-wall : (file : File) (n : ℕ) → 1 ≤ n → n ≤ mostWalls
-    → loadsAt file (getD (placeTable (entries file)) (n - 1) []) ≡ padded noLoad mostLoadsOnWall (loadsOn n (entries file))
+-- what is read at the row of a wall's index are the wall's loads, the first eight of them, in file order, and behind the last none
+pub loads-of-wall : (file : File) (i : ℕ) → i < mostWalls
+    → loadsAt file (getD (placeTable (entries file)) i []) ≡ padded noLoad mostLoadsOnWall (loadsOn (suc i) (entries file))
 unfolding loadsAt loadNumbered placesOn
-loads-of-wall file n low high =
-    let number : suc (n - 1) ≡ n = omega arith in
-    rw (row-at (entries file) (n - 1) (omega arith), number, map-padded, loads-are, numbers-up, loads-at)
+loads-of-wall file i h = rw (row-at (entries file) i h, map-padded, loads-are, numbers-up, loads-at)
 
 -- ---- what is read of an accepted file
 
@@ -159,11 +157,15 @@ padded-has p none d (suc n) [] has all (suc k) = padded-has p none d n [] has al
 padded-has p none d (suc n) (x ∷ xs) has all zero = all 0 (omega arith)
 padded-has p none d (suc n) (x ∷ xs) has all (suc k) = padded-has p none d n xs has (λ j h. all (suc j) (omega arith)) k
 
--- every row that is read for a wall is within its range against that wall
-pub rows-fit : (file : File) → T (accepted file) → (i : ℕ) → i < wallCount file → (k : ℕ)
-    → T (loadFits (wallAt file i) (getD (loadsAt file (getD (placeTable (entries file)) i [])) k noLoad))
-rows-fit file t i h k =
-    let few = wall-count file t .1 in
-    let index : suc i - 1 ≡ i = omega arith in
-    let rows = rw index at (loads-of-wall file (suc i) (omega arith) (omega arith)) in
-    rw rows (padded-has (loadFits (wallAt file i)) noLoad [] mostLoadsOnWall (loadsOn (suc i) (entries file)) (absent-fits (wallAt file i)) (loads-fit file t i h) k)
+module _ (file : File) (t : T (accepted file)) (i : ℕ) (h : i < wallCount file) where
+  its : loadsAt file (getD (placeTable (entries file)) i []) ≡ padded noLoad mostLoadsOnWall (loadsOn (suc i) (entries file))
+  its = let few = wall-count file t .1 in loads-of-wall file i (omega arith)
+
+  -- all of the wall's loads are read, and the other rows are absent loads
+  pub rows-of-wall : loadsAt file (getD (placeTable (entries file)) i [])
+      ≡ loadsOn (suc i) (entries file) ++ replicate (mostLoadsOnWall - length (loadsOn (suc i) (entries file))) noLoad
+  rows-of-wall = its ∙ padded-is noLoad mostLoadsOnWall (loadsOn (suc i) (entries file)) (few-loads file t (suc i))
+
+  -- every row that is read fits the wall
+  pub rows-fit : (k : ℕ) → T (loadFits (wallAt file i) (getD (loadsAt file (getD (placeTable (entries file)) i [])) k noLoad))
+  rows-fit k = rw its (padded-has (loadFits (wallAt file i)) noLoad [] mostLoadsOnWall (loadsOn (suc i) (entries file)) (absent-fits (wallAt file i)) (loads-fit file t i h) k)

@@ -1,7 +1,13 @@
-// A job file taken apart: whatever its bytes are, there are numbers, records and a first refusal, or none.
+// A job file taken apart. Any bytes have header numbers and records; and they have a first refusal, or are worked.
+use record::DEAD;
+use record::DIRECTION;
 use record::FIELDS;
+use record::LIVE;
 use record::LOAD_FIELDS;
 use record::Load;
+use record::Loads;
+use record::MOST_LOADS_ON_WALL;
+use record::POSITION;
 use record::Wall;
 use rules::Answer;
 
@@ -11,7 +17,7 @@ mod refusals;
 ghost use mathlib.Core.Path.{_≡_};
 ghost use Prim.Native.Nat.{_<_, _^_};
 ghost use Rattle.rules.specs.JobFile.{edition, wallCount, firstWallOffset, loadCount, firstLoadOffset, wholeLength, entriesAt, wallAt, entryAt, entries, loadOf};
-ghost use Rattle.rules.specs.Answered.{firstRefusal};
+ghost use Rattle.rules.specs.Answered.{isWorked, firstRefusal};
 ghost use Rattle.job.specs.Places.{loadNumbered, withPlace, placeTable, loadsAt};
 
 // The layout: a header, walls, and behind them entries, each a wall's number and a load.
@@ -19,31 +25,36 @@ pub const HEADER_BYTES: usize = 12;
 
 pub const WALL_BYTES: usize = 4 * FIELDS;
 
-pub const ENTRY_FIELDS: usize = 5;
+pub const ENTRY_FIELDS: usize = 1 + LOAD_FIELDS;
 
 pub const ENTRY_BYTES: usize = 4 * ENTRY_FIELDS;
 
-// Where an entry has the number of its wall; the load is what stands behind.
+// Where an entry has the number of its wall, and behind it each part of the load.
 const WALL_NUMBER: usize = 0;
+
+const ENTRY_DIRECTION: usize = 1 + DIRECTION;
+
+const ENTRY_POSITION: usize = 1 + POSITION;
+
+const ENTRY_DEAD: usize = 1 + DEAD;
+
+const ENTRY_LIVE: usize = 1 + LIVE;
 
 // The edition that is read.
 const EDITION: u16 = 1;
 
-// How many walls and loads a file may have, and loads a wall.
+// How many walls and loads a file may have.
 pub const MOST_WALLS: usize = 64;
 
 pub const MOST_LOADS: usize = 512;
 
-pub const MOST_LOADS_ON_WALL: usize = 8;
-
-// An entry of the file; the loads of a wall; the numbers of these; and such a row for each wall.
 pub type Entry = [u32; ENTRY_FIELDS];
 
-pub type Loads = [Load; MOST_LOADS_ON_WALL];
+// The places of a wall's loads: their numbers in the file, and 0 after the last.
+pub type PlaceRow = [u32; MOST_LOADS_ON_WALL];
 
-pub type Row = [u32; MOST_LOADS_ON_WALL];
-
-pub type Table = [Row; MOST_WALLS];
+// A row of places for each wall.
+pub type PlaceTable = [PlaceRow; MOST_WALLS];
 
 // The six numbers of the header.
 pub fn edition(file: &[u8]) -> u16
@@ -117,7 +128,12 @@ pub fn entry_at(file: &[u8], i: u32) -> Entry
 fn load_of(entry: Entry) -> Load
     ensures { λ r. ⌜ r ≡ loadOf entry ⌝ }
 {
-    [entry[1], entry[2], entry[3], entry[4]]
+    [
+        entry[ENTRY_DIRECTION],
+        entry[ENTRY_POSITION],
+        entry[ENTRY_DEAD],
+        entry[ENTRY_LIVE],
+    ]
 }
 
 // The load with a number, from 1; number 0 is no load.
@@ -131,7 +147,7 @@ fn load_numbered(file: &[u8], number: u32) -> Load
 }
 
 // A row of places with one more number in the first that is free; where none is, the row as it was.
-fn with_place(row: Row, number: u32) -> Row
+fn with_place(row: PlaceRow, number: u32) -> PlaceRow
     ensures { λ r. ⌜ r ≡ withPlace row number ⌝ }
 {
     let mut places = row;
@@ -144,9 +160,8 @@ fn with_place(row: Row, number: u32) -> Row
     places
 }
 
-// Where the loads of each wall stand, found in one pass: a row for each wall that a file may have, with the numbers of its loads in file
-// order, the first eight of them, and 0 after the last.
-pub fn places(file: &[u8]) -> Table
+// Where each wall's loads are in the file, in one pass: of a wall, the numbers of its first eight.
+pub fn places(file: &[u8]) -> PlaceTable
     ensures { λ r. ⌜ r ≡ placeTable (entries (now (file .entry))) ⌝ }
 {
     let mut table = [[0u32; MOST_LOADS_ON_WALL]; MOST_WALLS];
@@ -162,18 +177,28 @@ pub fn places(file: &[u8]) -> Table
     table
 }
 
-// The loads of a wall, read at its row of places: rows of zeros after the last.
-pub fn loads_at(file: &[u8], row: Row) -> Loads
+// What stands at a row of places: of a wall's row, the wall's loads.
+pub fn loads_at(file: &[u8], row: PlaceRow) -> Loads
     ensures { λ r. ⌜ r ≡ loadsAt (now (file .entry)) row ⌝ }
 {
     let mut loads = [[0u32; LOAD_FIELDS]; MOST_LOADS_ON_WALL];
-    for k in 0..MOST_LOADS_ON_WALL {
-        loads[k] = load_numbered(file, row[k]);
+    for i in 0..MOST_LOADS_ON_WALL {
+        loads[i] = load_numbered(file, row[i]);
     }
     loads
 }
 
-// The first refusal of the file, in document 01's order, or that it is worked.
+// Is it no refusal?
+pub fn is_worked(answer: Answer) -> bool
+    ensures { λ r. ⌜ r ≡ isWorked answer ⌝ }
+{
+    match answer {
+        Answer::Worked => true,
+        _ => false,
+    }
+}
+
+// What is answered of the file: the tests of the header one after the other, then the walls, then the loads.
 pub fn first_refusal(file: &[u8]) -> Answer
     ensures { λ r. ⌜ r ≡ firstRefusal (now (file .entry)) ⌝ }
 {
@@ -193,9 +218,9 @@ pub fn first_refusal(file: &[u8]) -> Answer
     if wrong_offset_or_length {
         return Answer::WrongOffsetOrLength;
     }
-    let walls = refusals::first_bad_wall(file);
-    if !refusals::is_worked(walls) {
-        return walls;
+    let bad_wall = refusals::first_bad_wall(file);
+    if !is_worked(bad_wall) {
+        return bad_wall;
     }
     refusals::first_bad_load(file)
 }

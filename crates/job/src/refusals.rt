@@ -1,29 +1,18 @@
-// Document 01, "What is answered": tests 3 to 7, each by itself.
+// Document 01, "What is answered": the tests of the counts, of the offsets and the length, of the walls and of the loads.
 use crate::ENTRY_BYTES;
 use crate::Entry;
 use crate::HEADER_BYTES;
 use crate::MOST_LOADS;
-use crate::MOST_LOADS_ON_WALL;
 use crate::MOST_WALLS;
 use crate::WALL_NUMBER;
+use record::MOST_LOADS_ON_WALL;
 use rules::Answer;
 ghost use mathlib.Core.Path.{_≡_};
 ghost use mathlib.Core.List.{[]};
 ghost use Prim.Native.Nat.{_≤_};
-ghost use lib.Dec.{leb};
 ghost use lib.ListN.{getD};
-ghost use Rattle.rules.specs.JobFile.{wallCount, mostWalls, mostLoadsOnWall, walls, entries};
-ghost use Rattle.rules.specs.Answered.{isWorked, countsFit, offsetsAndLengthFit, firstBadWall, entryFits, firstBadLoad};
-
-// Is it no refusal?
-pub fn is_worked(answer: Answer) -> bool
-    ensures { λ r. ⌜ r ≡ isWorked answer ⌝ }
-{
-    match answer {
-        Answer::Worked => true,
-        _ => false,
-    }
-}
+ghost use Rattle.rules.specs.JobFile.{wallCount, mostWalls, walls, entries};
+ghost use Rattle.rules.specs.Answered.{countsFit, offsetsAndLengthFit, firstBadWall, entryFits, firstBadLoad};
 
 // 3: are both counts within range?
 pub fn counts_fit(file: &[u8]) -> bool
@@ -90,15 +79,15 @@ fn entry_fits(file: &[u8], entry: Entry) -> bool
 // A count for each wall number, from 0 on.
 const COUNTS: usize = MOST_WALLS + 1;
 
-// 7: has the wall with a number as many loads as it may have, by the counts?
-fn is_full(counts: [u32; COUNTS], number: u32) -> bool
-    ensures { λ r. ⌜ r ≡ leb mostLoadsOnWall (getD counts number 0) ⌝ }
+// How many loads were passed on the wall with a number; none on a wall that no file can have.
+fn count_on(counts: [u32; COUNTS], number: u32) -> u32
+    ensures { λ r. ⌜ r ≡ getD counts number 0 ⌝ }
 {
     let n = number as usize;
     if n < COUNTS {
-        return MOST_LOADS_ON_WALL as u32 <= counts[n];
+        return counts[n];
     }
-    false
+    0
 }
 
 // 6 and 7: the first load that is out of range, or is one more than its wall may have. The file has no more walls than it may have.
@@ -112,7 +101,8 @@ pub fn first_bad_load(file: &[u8]) -> Answer
         let entry = crate::entry_at(file, i);
         let number = entry[WALL_NUMBER];
         let out_of_range = !entry_fits(file, entry);
-        let one_more = is_full(counts, number);
+        let passed = count_on(counts, number);
+        let one_more = MOST_LOADS_ON_WALL as u32 <= passed;
         if out_of_range {
             return Answer::LoadOutOfRange(i + 1);
         }
@@ -120,7 +110,6 @@ pub fn first_bad_load(file: &[u8]) -> Answer
             return Answer::NinthLoad(i + 1);
         }
         let wall = number as usize;
-        let passed = counts[wall];
         counts[wall] = passed + 1;
     }
     Answer::Worked

@@ -27,6 +27,11 @@ pub const LOAD_FIELDS: usize = 4;
 
 pub type Load = [u32; LOAD_FIELDS];
 
+// The loads of a wall: as many rows as it may have loads, with nothing but zeros after the last.
+pub const MOST_LOADS_ON_WALL: usize = 8;
+
+pub type Loads = [Load; MOST_LOADS_ON_WALL];
+
 pub const DIRECTION: usize = 0;
 
 pub const POSITION: usize = 1;
@@ -35,7 +40,7 @@ pub const DEAD: usize = 2;
 
 pub const LIVE: usize = 3;
 
-// The range of each field, a line for each row of document 01's table.
+// The range of each field, in field order.
 const RANGES: [Range; FIELDS] = [
     Range::Between(0, 1),
     Range::Between(500, 8000),
@@ -73,8 +78,8 @@ const RANGES: [Range; FIELDS] = [
 // The diameters that a bar can have.
 const BARS: [u32; 8] = [8, 10, 12, 16, 20, 25, 32, 40];
 
-// The most dead and the most live load, in N/m.
-const MOST_LOAD: u32 = 200000;
+// The greatest dead load, and the greatest live load, in N/m.
+const GREATEST_LOAD: u32 = 200000;
 
 fn wide(n: u32) -> u64
     ensures { λ r. ⌜ (r ≡ n) × (r < 2 ^ 32) ⌝ }
@@ -82,7 +87,7 @@ fn wide(n: u32) -> u64
     n as u64
 }
 
-// The field at an index; 0 behind the last.
+// The field at an index, which is its number less 1; 0 behind the last.
 pub fn field(wall: Wall, i: usize) -> u64
     ensures { λ r. ⌜ (r ≡ getD wall i 0) × (r < 2 ^ 32) ⌝ }
 {
@@ -172,5 +177,5 @@ pub fn load_fits(wall: Wall, load: Load) -> bool
     if reach_of(wall, load) < load[POSITION] as u64 {
         return false;
     }
-    load[DEAD] <= MOST_LOAD && load[LIVE] <= MOST_LOAD
+    load[DEAD] <= GREATEST_LOAD && load[LIVE] <= GREATEST_LOAD
 }

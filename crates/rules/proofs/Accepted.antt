@@ -1,4 +1,5 @@
 -- What it tells of a wall that its fields fit: each of the 31 lies in its range. One law serves all of them, since the ranges stand in a table.
+-- And what it tells of a load that it fits its wall.
 use mathlib.Core.Path.{_≡_, refl, sym, subst}
 use mathlib.Core.Bool.{Bool, true, false, _&&_, _||_, cond}
 use mathlib.Core.List.{List, [], _∷_}
@@ -8,7 +9,7 @@ use lib.Dec.{T, leb, eqb, leb→le, eqb→eq}
 use lib.ListN.{length, getD}
 use Rattle.rules.specs.declared.Range.{Range}
 use Rattle.rules.specs.declared.Range.the-variants.{Between, ABar}
-use Rattle.rules.specs.JobFile.{Wall, wallFields, bars, among, within, wallHeight, waterHeight, field, ranges, firstOutside, firstBadField, wallFits}
+use Rattle.rules.specs.JobFile.{Wall, Load, wallFields, bars, among, within, wallHeight, waterHeight, field, ranges, firstOutside, firstBadField, wallFits, direction, position, deadLoad, liveLoad, greatestLoad, reach, loadFits}
 use Rattle.rules.specs.ToeAndStem.{barAreas}
 
 -- ---- tests
@@ -26,7 +27,7 @@ every p [] = true
 every p (m ∷ ms) = p m && every p ms
 
 -- what each of some numbers has, a number among them has
-pub among-has : (p : ℕ → Bool) (n : ℕ) (ms : List ℕ) → T (every p ms) → T (among n ms) → T (p n)
+among-has : (p : ℕ → Bool) (n : ℕ) (ms : List ℕ) → T (every p ms) → T (among n ms) → T (p n)
 unfolding among
 among-has p n [] all t = absurd t
 among-has p n (m ∷ ms) all t =
@@ -82,3 +83,29 @@ areas-for-bars = refl
 pub water-below : (wall : Wall) → T (wallFits wall) → waterHeight wall ≤ wallHeight wall
 unfolding within
 water-below wall fits = leb→le (waterHeight wall) (wallHeight wall) (field-within wall fits 8 (omega arith))
+
+-- ---- a load that fits
+
+-- each of its four numbers lies in its range
+pub record LoadWithin (wall : Wall) (load : Load) : Type 0 where
+  pub way : direction load ≤ 1
+  pub place : position load ≤ reach wall load
+  pub dead : deadLoad load ≤ greatestLoad
+  pub live : liveLoad load ≤ greatestLoad
+
+pub load-within : (wall : Wall) (load : Load) → T (loadFits wall load) → LoadWithin wall load
+unfolding loadFits
+load-within wall load fits =
+    let way = leb (direction load) 1 in
+    let place = leb (position load) (reach wall load) in
+    let dead = leb (deadLoad load) greatestLoad in
+    let live = leb (liveLoad load) greatestLoad in
+    let last = both (way && place && dead) live fits in
+    let third = both (way && place) dead (last .0) in
+    let two = both way place (third .0) in
+    record {
+      way = leb→le (direction load) 1 (two .0);
+      place = leb→le (position load) (reach wall load) (two .1);
+      dead = leb→le (deadLoad load) greatestLoad (third .1);
+      live = leb→le (liveLoad load) greatestLoad (last .1);
+    }

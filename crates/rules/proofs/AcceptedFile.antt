@@ -220,7 +220,7 @@ each-on p n (e ∷ es) all = go (eqb (wallOf e) n) refl (each-on p n es (λ k h.
     go true on rest (suc k) h = rest k (omega arith)
     go false on rest k h = rest k h
 
--- every load of a wall is within its range against that wall
+-- a wall's loads fit the wall that they are on
 pub loads-fit : (file : File) → T (accepted file) → (i : ℕ) → i < wallCount file → (k : ℕ) → k < length (loadsOn (suc i) (entries file))
     → T (loadFits (wallAt file i) (getD (loadsOn (suc i) (entries file)) k []))
 loads-fit file t i h = each-on (loadFits (wallAt file i)) (suc i) (entries file) one

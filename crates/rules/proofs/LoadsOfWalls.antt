@@ -1,32 +1,18 @@
--- The loads of a wall keep the order of the file, and every load belongs to exactly one wall.
-use mathlib.Core.Path.{_≡_, refl, sym, ap, ap₂, fun-ext, _∙_}
+-- Which loads a wall has: those that name it, in file order. So none is lost between two walls, and none is on both.
+use mathlib.Core.Path.{_≡_, refl, sym, ap, ap₂, _∙_}
 use mathlib.Core.Bool.{Bool, true, false, _||_, cond}
 use mathlib.Core.List.{List, [], _∷_, map}
 use Prim.Native.Nat.{ℕ, zero, suc, _+_, _-_, _≤_, _<_}
 use native.Mathlib.Omega.{arith}
 use lib.Dec.{T, eqb, eqb→eq}
 use lib.ListN.{length, getD}
-use borrow.Author.Tests.{eqb-true, eqb-false, eq-eqb, ne-eqb}
+use borrow.Author.Tests.{eqb-true, eq-eqb}
 use Rattle.rules.proofs.Accepted.{either}
 use Rattle.rules.proofs.AcceptedFile.{entry-at, entries-length, load-has-wall}
 use Rattle.rules.specs.JobFile.{File, Load, Entry, wallCount, loadCount, entryAt, recordsFrom, entries, wallOf, loadOf, loadsOn, numbersOn, among}
 use Rattle.rules.specs.Answered.{accepted}
 
 -- ---- the numbers of a wall's loads
-
--- a wall has as many numbers as loads
-pub as-many : (n first : ℕ) (es : List Entry) → length (numbersOn n first es) ≡ length (loadsOn n es)
-unfolding loadsOn numbersOn
-as-many n first [] = refl
-as-many n first (e ∷ es) = go (eqb (wallOf e) n) (as-many n (suc first) es)
-  where
-    rest : List ℕ
-    rest = numbersOn n (suc first) es
-
-    go : (on : Bool) → length rest ≡ length (loadsOn n es)
-        → length (cond on (first ∷ rest) rest) ≡ length (cond on (loadOf e ∷ loadsOn n es) (loadsOn n es))
-    go true same = ap suc same
-    go false same = same
 
 -- of any records: the loads of a wall are those that have its numbers, which are one more than the records' indices
 loads-from : (f : ℕ → Entry) (n i count : ℕ)
@@ -61,7 +47,7 @@ or-right true b t = tt
 or-right false b t = t
 
 -- every element of a list is among them
-pub element-among : (ms : List ℕ) (k : ℕ) → k < length ms → T (among (getD ms k 0) ms)
+element-among : (ms : List ℕ) (k : ℕ) → k < length ms → T (among (getD ms k 0) ms)
 unfolding among
 element-among [] k h = absurd (omega arith)
 element-among (m ∷ ms) zero h = rw (eq-eqb m m refl) tt
@@ -116,10 +102,6 @@ numbers-ascend n first (e ∷ es) = go (eqb (wallOf e) n) (numbers-ascend n (suc
     go true ascend (suc j) (suc k) less h = ascend j k (omega arith) (omega arith)
     go false ascend j k less h = ascend j k less h
 
--- every number of a wall is the number of a load of the file
-pub number-in : (file : File) (n m : ℕ) → T (among m (numbersOn n 1 (entries file))) → (1 ≤ m) × (m ≤ loadCount file)
-number-in file n m t = omega (arith, entries-length file, numbers-between n 1 (entries file) m t)
-
 -- ---- one wall for each load
 
 -- an entry's number is among those of the wall that it names
@@ -142,13 +124,13 @@ named n first (e ∷ es) (suc k) h t =
     first-or-later n first e es (first + suc k) t (λ same on. absurd (omega arith)) (λ later. named n (suc first) es k (omega arith) (rw further at later))
 
 -- a load's number is among those of the wall that it names
-pub on-its-wall : (file : File) (k : ℕ) → k < loadCount file → T (among (suc k) (numbersOn (wallOf (entryAt file k)) 1 (entries file)))
+on-its-wall : (file : File) (k : ℕ) → k < loadCount file → T (among (suc k) (numbersOn (wallOf (entryAt file k)) 1 (entries file)))
 on-its-wall file k h =
     let number : 1 + k ≡ suc k = omega arith in
     rw number at (number-there (wallOf (entryAt file k)) 1 (entries file) k (rw entries-length h) (ap wallOf (entry-at file k h)))
 
 -- and among no other wall's
-pub on-no-other : (file : File) (k n : ℕ) → k < loadCount file → T (among (suc k) (numbersOn n 1 (entries file))) → n ≡ wallOf (entryAt file k)
+on-no-other : (file : File) (k n : ℕ) → k < loadCount file → T (among (suc k) (numbersOn n 1 (entries file))) → n ≡ wallOf (entryAt file k)
 on-no-other file k n h t =
     let number : suc k ≡ 1 + k = omega arith in
     named n 1 (entries file) k (rw entries-length h) (rw number at t) ∙ ap wallOf (entry-at file k h)
@@ -169,67 +151,3 @@ on-one-wall file t k h =
       has = on-its-wall file k h;
       only = λ n. on-no-other file k n h;
     }
-
--- ---- each load counted once in all
-
--- the sum of f 0, f 1 and so on, n of them
-unfoldable pub total : (ℕ → ℕ) → ℕ → ℕ
-total f zero = 0
-total f (suc n) = total f n + f n
-
--- sums may be added term by term
-total-add : (f g : ℕ → ℕ) (n : ℕ) → total (λ i. f i + g i) n ≡ total f n + total g n
-unfolding total
-total-add f g zero = refl
-total-add f g (suc n) = omega (arith, total-add f g n)
-
--- where every term is 0, the sum is
-total-none : (f : ℕ → ℕ) (n : ℕ) → ((i : ℕ) → i < n → f i ≡ 0) → total f n ≡ 0
-unfolding total
-total-none f zero none = refl
-total-none f (suc n) none = omega (arith, total-none f n (λ i h. none i (omega arith)), none n (omega arith))
-
--- 1 at the index of wall number m, and 0 at every other
-abbrev tally : ℕ → ℕ → ℕ
-tally m i = cond (eqb m (suc i)) 1 0
-
--- of n walls, one has the number m, where that is from 1 to n
-one-has : (m n : ℕ) → 1 ≤ m → m ≤ n → total (tally m) n ≡ 1
-unfolding total
-one-has m zero low high = absurd (omega arith)
-one-has m (suc n) low high = go (eqb m (suc n)) refl (one-has m n low)
-  where
-    go : (last : Bool) → eqb m (suc n) ≡ last → (m ≤ n → total (tally m) n ≡ 1) → total (tally m) n + cond last 1 0 ≡ 1
-    go true last rest =
-        let same = eqb-true m (suc n) last in
-        let none = total-none (tally m) n (λ i h. rw (ne-eqb m (suc i) (λ e. omega arith))) in
-        omega arith
-    go false last rest = omega (arith, rest (omega (arith, eqb-false m (suc n) last)))
-
--- one more entry is a load more on the wall that it names
-counted : (n : ℕ) (e : Entry) (es : List Entry) → length (loadsOn n (e ∷ es)) ≡ cond (eqb (wallOf e) n) 1 0 + length (loadsOn n es)
-unfolding loadsOn
-counted n e es = go (eqb (wallOf e) n)
-  where
-    go : (on : Bool) → length (cond on (loadOf e ∷ loadsOn n es) (loadsOn n es)) ≡ cond on 1 0 + length (loadsOn n es)
-    go true = omega arith
-    go false = omega arith
-
--- where every entry names one of n walls, the loads of these are as many as the entries
-all-counted : (n : ℕ) (es : List Entry) → ((k : ℕ) → k < length es → (1 ≤ wallOf (getD es k [])) × (wallOf (getD es k []) ≤ n))
-    → total (λ i. length (loadsOn (suc i) es)) n ≡ length es
-unfolding loadsOn
-all-counted n [] there = total-none (λ i. 0) n (λ i h. refl)
-all-counted n (e ∷ es) there =
-    let one = one-has (wallOf e) n (there 0 (omega arith) .0) (there 0 (omega arith) .1) in
-    let rest = all-counted n es (λ k h. there (suc k) (omega arith)) in
-    ap (λ (f : ℕ → ℕ). total f n) (fun-ext (λ i. counted (suc i) e es))
-    ∙ total-add (tally (wallOf e)) (λ i. length (loadsOn (suc i) es)) n
-    ∙ omega arith
-
--- the loads of all walls of an accepted file are together as many as the file has
-pub each-once : (file : File) → T (accepted file) → total (λ i. length (loadsOn (suc i) (entries file))) (wallCount file) ≡ loadCount file
-each-once file t = all-counted (wallCount file) (entries file) there ∙ entries-length file
-  where
-    there : (k : ℕ) → k < length (entries file) → (1 ≤ wallOf (getD (entries file) k [])) × (wallOf (getD (entries file) k []) ≤ wallCount file)
-    there k h = let within : k < loadCount file = rw entries-length at h in rw (entry-at file k) (load-has-wall file t k within)

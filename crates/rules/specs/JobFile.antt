@@ -118,7 +118,7 @@ unfoldable pub loadsOn : ℕ → List Entry → List Load
 loadsOn n [] = []
 loadsOn n (entry ∷ rest) = cond (eqb (wallOf entry) n) (loadOf entry ∷ loadsOn n rest) (loadsOn n rest)
 
--- their numbers, where the first entry has a number: loads are numbered in file order
+-- their numbers in the file, where the first entry of the list has the number given
 unfoldable pub numbersOn : ℕ → ℕ → List Entry → List ℕ
 numbersOn n number [] = []
 numbersOn n number (entry ∷ rest) =
@@ -310,10 +310,14 @@ liveLoad load = getD load 3 0
 unfoldable pub isDown : Load → Bool
 isDown load = eqb (direction load) 0
 
+-- the greatest dead load, and the greatest live load
+abbrev pub greatestLoad : ℕ
+greatestLoad = 200000
+
 -- the furthest position
 unfoldable pub reach : Wall → Load → ℕ
 reach wall load = cond (isDown load) (baseLength wall) (wallHeight wall)
 
 unfoldable pub loadFits : Wall → Load → Bool
 loadFits wall load =
-    leb (direction load) 1 && leb (position load) (reach wall load) && leb (deadLoad load) 200000 && leb (liveLoad load) 200000
+    leb (direction load) 1 && leb (position load) (reach wall load) && leb (deadLoad load) greatestLoad && leb (liveLoad load) greatestLoad

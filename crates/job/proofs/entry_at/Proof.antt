@@ -2,16 +2,16 @@
 use mathlib.Core.Path.{refl, _∙_}
 use Prim.Native.Nat.{_-_}
 use native.Mathlib.Omega.{arith}
-use Rattle.rules.specs.JobFile.{entryAt}
+use Rattle.rules.specs.JobFile.{entryFields, entryAt}
 use Rattle.job.proofs.Records.{Read, none-read, one-more, all-read}
 use Rattle.job.proofs.entry_at.Statement.{statement}
 use Rattle.job.proofs.entry_at.Tie as tie
 
 abbrev Inv-loop : tie.InvT-loop
-Inv-loop file i at entry₀ k₀ entry k = Read file at 5 k entry
+Inv-loop file i at entry₀ k₀ entry k = Read file at entryFields k entry
 
 abbrev μ-loop : tie.MeasureT-loop
-μ-loop file i at entry₀ k₀ entry k = 5 - k
+μ-loop file i at entry₀ k₀ entry k = entryFields - k
 
 entries-at-requires : tie.Need-entries-at-requires Inv-loop μ-loop
 entries-at-requires c κs = tt

@@ -2,16 +2,16 @@
 use mathlib.Core.Path.{refl}
 use Prim.Native.Nat.{_-_}
 use native.Mathlib.Omega.{arith}
-use Rattle.rules.specs.JobFile.{wallAt}
+use Rattle.rules.specs.JobFile.{wallFields, wallAt}
 use Rattle.job.proofs.Records.{Read, none-read, one-more, all-read}
 use Rattle.job.proofs.wall_at.Statement.{statement}
 use Rattle.job.proofs.wall_at.Tie as tie
 
 abbrev Inv-loop : tie.InvT-loop
-Inv-loop file i at wall₀ k₀ wall k = Read file at 31 k wall
+Inv-loop file i at wall₀ k₀ wall k = Read file at wallFields k wall
 
 abbrev μ-loop : tie.MeasureT-loop
-μ-loop file i at wall₀ k₀ wall k = 31 - k
+μ-loop file i at wall₀ k₀ wall k = wallFields - k
 
 mul-at : tie.Need-mul-at Inv-loop μ-loop
 mul-at c = omega arith

@@ -6,6 +6,7 @@ use native.Mathlib.Omega.{arith}
 use native.Mathlib.Numerals.{add-one}
 use lib.ListN.{length, getD, take, drop, set, drop-of-length-le}
 use lib.Seq.{take-all, take-suc, drop-cons, append-snoc, set-split}
+use Rattle.rules.specs.JobFile.{mostLoadsOnWall}
 use Rattle.job.specs.Places.{withPlace}
 use Rattle.job.proofs.with_place.Statement.{statement}
 use Rattle.job.proofs.with_place.Tie as tie
@@ -27,10 +28,10 @@ module _ (row : List ℕ) (k number : ℕ) (h : k < length row) where
   goes-on taken = rw (drop-cons row k 0 h, past _ _ number taken, take-suc row k 0 h, append-snoc)
 
 abbrev Inv-loop : tie.InvT-loop
-Inv-loop number places₀ k₀ places k = (length places ≡ 8) × (k ≤ 8) × (withPlace places₀ number ≡ take k places ++ withPlace (drop k places) number)
+Inv-loop number places₀ k₀ places k = (length places ≡ mostLoadsOnWall) × (k ≤ mostLoadsOnWall) × (withPlace places₀ number ≡ take k places ++ withPlace (drop k places) number)
 
 abbrev μ-loop : tie.MeasureT-loop
-μ-loop number places₀ k₀ places k = 8 - k
+μ-loop number places₀ k₀ places k = mostLoadsOnWall - k
 
 loop-holds : tie.Need-loop-holds Inv-loop μ-loop
 loop-holds c = (c .good .0 .1 .0 .1, omega arith, refl)

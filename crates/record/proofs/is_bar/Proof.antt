@@ -4,17 +4,17 @@ use Prim.Native.Nat.{_-_, _≤_}
 use native.Mathlib.Omega.{arith}
 use native.Mathlib.Numerals.{add-one}
 use borrow.Author.Tests.{eq-eqb, ne-eqb}
-use lib.ListN.{drop}
+use lib.ListN.{length, drop}
 use lib.Seq.{drop-cons}
 use Rattle.rules.specs.JobFile.{bars, among}
 use Rattle.record.proofs.is_bar.Statement.{statement}
 use Rattle.record.proofs.is_bar.Tie as tie
 
 abbrev Inv-loop : tie.InvT-loop
-Inv-loop n i₀ i = (i ≤ 8) × (among n bars ≡ among n (drop i bars))
+Inv-loop n i₀ i = (i ≤ length bars) × (among n bars ≡ among n (drop i bars))
 
 abbrev μ-loop : tie.MeasureT-loop
-μ-loop n i₀ i = 8 - i
+μ-loop n i₀ i = length bars - i
 
 loop-holds : tie.Need-loop-holds Inv-loop μ-loop
 loop-holds c = (omega arith, refl)
@@ -46,7 +46,7 @@ loop-again c =
 returns-2 : tie.Need-returns-2 Inv-loop μ-loop
 unfolding among
 returns-2 c =
-    let e : c .before .loop .i ≡ 8 = omega arith in
+    let e : c .before .loop .i ≡ length bars = omega arith in
     sym (c .before .loop .inv .1 ∙ rw e)
 
 pub is-bar-spec : {M : Type 1} → statement M

@@ -1,14 +1,12 @@
--- `job::refusals::first_bad_load` meets its contract. The invariant: the loads passed are counted, wall by wall, and the answer is that of the
--- loads from the next one on.
+-- `job::refusals::first_bad_load` meets its contract. The invariant: the loads passed are counted, wall by wall, and the answer is that of
+-- the loads from the next one on.
 use mathlib.Core.Path.{_≡_, sym, _∙_}
 use mathlib.Core.Bool.{Bool, false, not}
-use mathlib.Core.List.{List, []}
-use Prim.Native.Nat.{ℕ, _-_, _≤_, _<_, _^_}
+use mathlib.Core.List.{[]}
+use Prim.Native.Nat.{_-_, _≤_, _<_, _^_}
 use native.Mathlib.Omega.{arith}
 use native.Mathlib.Numerals.{add-one}
 use borrow.Author.Tests.{leb-false, not-true, not-false}
-use lib.Dec.{leb}
-use lib.ListN.{getD}
 use Rattle.rules.specs.JobFile.{File, Entry, wallCount, mostWalls, mostLoadsOnWall, recordsFrom, walls, entries, wallOf}
 use Rattle.rules.specs.Answered.{entryFits, firstBadLoad}
 use Rattle.job.proofs.Judged.{passedLoads, fromLoad, load-refused, load-is-ninth, load-passed, loads-passed, has-wall, Counted, none-counted, next-counted, is-one-more}
@@ -19,10 +17,6 @@ use Rattle.job.proofs.refusals.first_bad_load.Tie as tie
 on-wall : (file : File) (entry : Entry) (fits : Bool) → fits ≡ entryFits (walls file) entry → not fits ≡ false → wallCount file ≤ mostWalls
     → wallOf entry ≤ mostWalls
 on-wall file entry fits e left few = omega (arith, has-wall file entry (sym e ∙ not-false fits left))
-
--- a wall that is not full has room
-has-room : (counts : List ℕ) (number : ℕ) (full : Bool) → full ≡ leb mostLoadsOnWall (getD counts number 0) → full ≡ false → getD counts number 0 < mostLoadsOnWall
-has-room counts number full e left = leb-false mostLoadsOnWall (getD counts number 0) (sym e ∙ left)
 
 abbrev Inv-loop : tie.InvT-loop
 Inv-loop file loads counts₀ i₀ counts i =
@@ -52,45 +46,40 @@ array-read-number c = omega arith
 entry-fits-requires : tie.Need-entry-fits-requires Inv-loop μ-loop
 entry-fits-requires c κs = tt
 
-is-full-requires : tie.Need-is-full-requires Inv-loop μ-loop
-is-full-requires c κs = tt
+count-on-requires : tie.Need-count-on-requires Inv-loop μ-loop
+count-on-requires c κs = tt
+
+cast-one-more : tie.Need-cast-one-more Inv-loop μ-loop
+cast-one-more c = omega arith
 
 add-t18 : tie.Need-add-t18 Inv-loop μ-loop
 add-t18 c = omega arith
 
 returns : tie.Need-returns Inv-loop μ-loop
 returns c =
-    let outside = sym (c .before .before .entry-fits .ensures) ∙ not-true _ (c .if1 .taken) in
-    let step = load-refused _ _ _ _ (c .before .before .before .entry-at .ensures) (c .before .before .before .before .loop-test .taken) outside in
-    rw add-one (sym (c .before .before .before .before .before .loop .inv .3 ∙ step))
+    let d = c .before .before in
+    let outside = sym (d .entry-fits .ensures) ∙ not-true _ (c .if1 .taken) in
+    let step = load-refused _ _ _ _ (d .before .entry-at .ensures) (d .before .before .loop-test .taken) outside in
+    rw add-one (sym (d .before .before .before .loop .inv .3 ∙ step))
 
 add-t19 : tie.Need-add-t19 Inv-loop μ-loop
 add-t19 c = omega arith
 
 returns-2 : tie.Need-returns-2 Inv-loop μ-loop
 returns-2 c =
-    let on = on-wall _ _ _ (c .before .before .before .entry-fits .ensures) (c .before .if1 .left) (c .before .before .before .before .before .before .before .before .before .pre) in
     let d = c .before .before .before in
-    let fits = sym (d .entry-fits .ensures) ∙ not-false _ (c .before .if1 .left) in
     let counted = d .before .before .before .loop .inv .2 in
-    let more = is-one-more _ _ _ _ on counted ∙ sym (c .before .before .is-full .ensures) ∙ c .if2 .taken in
+    let on = on-wall _ _ _ (c .before .before .before .entry-fits .ensures) (c .before .if1 .left) (c .before .before .before .before .before .before .before .before .before .pre) in
+    let fits = sym (d .entry-fits .ensures) ∙ not-false _ (c .before .if1 .left) in
+    let more = is-one-more _ _ _ _ _ counted on (c .before .before .count-on .ensures) ∙ c .if2 .taken in
     let step = load-is-ninth _ _ _ _ (d .before .entry-at .ensures) (d .before .before .loop-test .taken) fits more in
     rw add-one (sym (d .before .before .before .loop .inv .3 ∙ step))
 
 cast-wall : tie.Need-cast-wall Inv-loop μ-loop
 cast-wall c = omega (arith, on-wall _ _ _ (c .before .before .before .entry-fits .ensures) (c .before .if1 .left) (c .before .before .before .before .before .before .before .before .before .pre))
 
-mul-passed : tie.Need-mul-passed Inv-loop μ-loop
-mul-passed c = omega (arith, on-wall _ _ _ (c .before .before .before .entry-fits .ensures) (c .before .if1 .left) (c .before .before .before .before .before .before .before .before .before .pre))
-
-array-read-passed : tie.Need-array-read-passed Inv-loop μ-loop
-array-read-passed c = omega (arith, on-wall _ _ _ (c .before .before .before .entry-fits .ensures) (c .before .if1 .left) (c .before .before .before .before .before .before .before .before .before .pre))
-
 add-counts : tie.Need-add-counts Inv-loop μ-loop
-add-counts c =
-    let d = c .before .before .before in
-    let number = wallOf (d .before .entry-at .result) in
-    omega (arith, has-room (d .before .before .before .loop .counts) number _ (c .before .before .is-full .ensures) (c .if2 .left))
+add-counts c = omega (arith, leb-false mostLoadsOnWall (c .before .before .count-on .result) (c .if2 .left))
 
 mul-counts : tie.Need-mul-counts Inv-loop μ-loop
 mul-counts c = omega (arith, on-wall _ _ _ (c .before .before .before .entry-fits .ensures) (c .before .if1 .left) (c .before .before .before .before .before .before .before .before .before .pre))
@@ -106,14 +95,15 @@ loop-less c = omega arith
 
 loop-again : tie.Need-loop-again Inv-loop μ-loop
 loop-again c =
-    let on = on-wall _ _ _ (c .before .before .before .entry-fits .ensures) (c .before .if1 .left) (c .before .before .before .before .before .before .before .before .before .pre) in
     let d = c .before .before .before in
-    let fits = sym (d .entry-fits .ensures) ∙ not-false _ (c .before .if1 .left) in
     let counted = d .before .before .before .loop .inv .2 in
-    let more = is-one-more _ _ _ _ on counted ∙ sym (c .before .before .is-full .ensures) ∙ c .if2 .left in
+    let on = on-wall _ _ _ (c .before .before .before .entry-fits .ensures) (c .before .if1 .left) (c .before .before .before .before .before .before .before .before .before .pre) in
+    let fits = sym (d .entry-fits .ensures) ∙ not-false _ (c .before .if1 .left) in
+    let more = is-one-more _ _ _ _ _ counted on (c .before .before .count-on .ensures) ∙ c .if2 .left in
     let step = load-passed _ _ _ _ (d .before .entry-at .ensures) (d .before .before .loop-test .taken) fits more in
-    let next = add-one (d .before .before .before .loop .i) in
-    (omega arith, omega arith, rw next (next-counted _ _ _ _ on counted (d .before .entry-at .ensures)), rw next (d .before .before .before .loop .inv .3 ∙ step))
+    let next = next-counted _ _ _ _ _ counted on (c .before .before .count-on .ensures) (d .before .entry-at .ensures) in
+    let index = add-one (d .before .before .before .loop .i) in
+    (omega arith, omega arith, rw index next, rw index (d .before .before .before .loop .inv .3 ∙ step))
 
 returns-3 : tie.Need-returns-3 Inv-loop μ-loop
 returns-3 c = sym (c .before .loop .inv .3 ∙ loads-passed _ _ _ (omega arith))
@@ -130,14 +120,13 @@ first-bad-load-spec =
     entry-at-requires
     array-read-number
     entry-fits-requires
-    is-full-requires
+    count-on-requires
+    cast-one-more
     add-t18
     returns
     add-t19
     returns-2
     cast-wall
-    mul-passed
-    array-read-passed
     add-counts
     mul-counts
     array-write-counts

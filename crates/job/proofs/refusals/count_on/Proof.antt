@@ -1,13 +1,11 @@
--- `job::refusals::is_full` meets its contract. Beyond the counts there is no wall, and no load on it.
+-- `job::refusals::count_on` meets its contract. Beyond the counts there is none.
+use mathlib.Core.Path.{sym}
 use Prim.Native.Nat.{_≤_}
 use native.Mathlib.Omega.{arith}
 use borrow.Author.Needs.{needs}
 use lib.ListN.{length, List·getD-eq-default}
-use Rattle.job.proofs.refusals.is_full.Statement.{statement}
-use Rattle.job.proofs.refusals.is_full.Tie as tie
-
-cast-result : tie.Need-cast-result
-cast-result c = search needs
+use Rattle.job.proofs.refusals.count_on.Statement.{statement}
+use Rattle.job.proofs.refusals.count_on.Tie as tie
 
 mul-result : tie.Need-mul-result
 mul-result c = search needs
@@ -22,7 +20,7 @@ returns-2 : tie.Need-returns-2
 returns-2 c =
     let counts = c .before .args .t1 in
     let past : length counts ≤ c .before .args .number = omega (arith, c .before .good .0 .1 .0 .1) in
-    rw (List·getD-eq-default counts 0 past)
+    sym (List·getD-eq-default counts 0 past)
 
-pub is-full-spec : {M : Type 1} → statement M
-is-full-spec = tie.close (tie.spec cast-result mul-result array-read-result returns returns-2)
+pub count-on-spec : {M : Type 1} → statement M
+count-on-spec = tie.close (tie.spec mul-result array-read-result returns returns-2)
