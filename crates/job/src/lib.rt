@@ -48,6 +48,7 @@ pub const MOST_WALLS: usize = 64;
 
 pub const MOST_LOADS: usize = 512;
 
+// An entry of the file.
 pub type Entry = [u32; ENTRY_FIELDS];
 
 // The places of a wall's loads: their numbers in the file, and 0 after the last.

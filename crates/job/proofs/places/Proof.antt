@@ -82,7 +82,7 @@ loop-again c =
     let here = c .before .entry-at .ensures in (
       omega arith,
       rw add-one (⊎-elim
-          (λ w. w .4 ∙ with-row _ _ _ _ same here (w .0 .taken) (leb-true _ _ (w .1 .taken)) _ (w .3 .ensures))
+          (λ w. w .4 ∙ with-row _ _ _ _ same here (omega arith) (omega (arith, leb-true)) _ (w .3 .ensures))
           (λ w. w .1 ∙ without _ _ _ _ same here (⊎-elim (λ v low high. omega (arith, leb-false)) (λ v low high. omega arith) (w .0 .came)))
           (c .if1 .came)),
     )
