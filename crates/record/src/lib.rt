@@ -11,7 +11,9 @@ pub const FIELDS: usize = 31;
 
 pub type Wall = [u32; FIELDS];
 
-// Where the fields stand that others are judged by.
+// Where the fields stand: a field's index is its number less 1.
+pub const KIND: usize = 0;
+
 pub const STEM_HEIGHT: usize = 1;
 
 pub const STEM_THICKNESS: usize = 2;
@@ -21,6 +23,32 @@ pub const TOE_LENGTH: usize = 3;
 pub const HEEL_LENGTH: usize = 4;
 
 pub const BASE_THICKNESS: usize = 5;
+
+pub const COVER_IN_FRONT: usize = 6;
+
+pub const EXCAVATION: usize = 7;
+
+pub const WATER_HEIGHT: usize = 8;
+
+pub const STEM_DENSITY: usize = 9;
+
+pub const BASE_DENSITY: usize = 10;
+
+pub const MOIST_DENSITY: usize = 11;
+
+pub const SATURATED_DENSITY: usize = 12;
+
+pub const SOIL_DENSITY: usize = 13;
+
+pub const ACTIVE_COEFFICIENT: usize = 14;
+
+pub const REST_COEFFICIENT: usize = 15;
+
+pub const PASSIVE_COEFFICIENT: usize = 16;
+
+pub const FRICTION_TANGENT: usize = 17;
+
+pub const SURCHARGE: usize = 19;
 
 // A load is its direction, its position, its dead and its live part.
 pub const LOAD_FIELDS: usize = 4;

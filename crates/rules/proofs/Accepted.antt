@@ -5,11 +5,11 @@ use mathlib.Core.Bool.{Bool, true, false, _&&_, _||_, cond}
 use mathlib.Core.List.{List, [], _∷_}
 use Prim.Native.Nat.{ℕ, zero, suc, _+_, _-_, _≤_, _<_}
 use native.Mathlib.Omega.{arith}
-use lib.Dec.{T, leb, eqb, leb→le, eqb→eq}
+use lib.Dec.{T, leb, ltb, eqb, leb→le, ltb→lt, eqb→eq}
 use lib.ListN.{length, getD}
 use Rattle.rules.specs.declared.Range.{Range}
 use Rattle.rules.specs.declared.Range.the-variants.{Between, ABar}
-use Rattle.rules.specs.JobFile.{Wall, Load, wallFields, bars, among, within, wallHeight, waterHeight, field, ranges, firstOutside, firstBadField, wallFits, direction, position, deadLoad, liveLoad, greatestLoad, reach, loadFits}
+use Rattle.rules.specs.JobFile.{Wall, Load, wallFields, bars, among, within, baseLength, wallHeight, stemHeight, stemThickness, toeLength, heelLength, baseThickness, coverInFront, excavation, waterHeight, stemDensity, baseDensity, moistDensity, saturatedDensity, soilDensity, activeCoefficient, restCoefficient, passiveCoefficient, frictionTangent, surcharge, field, ranges, firstOutside, firstBadField, wallFits, direction, position, deadLoad, liveLoad, greatestLoad, reach, loadFits}
 use Rattle.rules.specs.ToeAndStem.{barAreas}
 
 -- ---- tests
@@ -22,7 +22,7 @@ pub either : {P : Type 0} (a b : Bool) → T (a || b) → (T a → P) → (T b �
 either true b t f g = f tt
 either false b t f g = g t
 
-abbrev pub every : (ℕ → Bool) → List ℕ → Bool
+abbrev pub every : {A : Type 0} → (A → Bool) → List A → Bool
 every p [] = true
 every p (m ∷ ms) = p m && every p ms
 
@@ -58,9 +58,13 @@ unfolding wallFits firstBadField
 field-within wall fits i h =
     let k : 0 + i ≡ i = omega arith in rw k at (inside wall 0 ranges (eqb→eq (firstBadField wall) 0 fits) i h)
 
+-- a number lies between two others, both included
+abbrev pub Lies : ℕ → ℕ → ℕ → Type 0
+Lies low high n = (low ≤ n) × (n ≤ high)
+
 -- a field with two bounds, which the table of ranges gives
 pub field-between : (wall : Wall) → T (wallFits wall) → (i low high : ℕ) → i < wallFields → getD ranges i ABar ≡ Between low high
-    → (low ≤ getD wall i 0) × (getD wall i 0 ≤ high)
+    → Lies low high (getD wall i 0)
 unfolding within
 field-between wall fits i low high h e =
     let t : T (leb low (getD wall i 0) && leb (getD wall i 0) high) = rw e at (field-within wall fits i h) in
@@ -83,6 +87,62 @@ areas-for-bars = refl
 pub water-below : (wall : Wall) → T (wallFits wall) → waterHeight wall ≤ wallHeight wall
 unfolding within
 water-below wall fits = leb→le (waterHeight wall) (wallHeight wall) (field-within wall fits 8 (omega arith))
+
+-- the fields of a wall that its forces read, each in its range
+pub record WallWithin (wall : Wall) : Type 0 where
+  pub stem-height : Lies 500 8000 (stemHeight wall)
+  pub stem-thickness : Lies 200 1500 (stemThickness wall)
+  pub toe-length : Lies 0 5000 (toeLength wall)
+  pub heel-length : Lies 0 5000 (heelLength wall)
+  pub base-thickness : Lies 200 1500 (baseThickness wall)
+  pub cover : Lies 0 1000 (coverInFront wall)
+  pub excavation : Lies 0 1000 (excavation wall)
+  pub water : waterHeight wall ≤ wallHeight wall
+  pub stem-density : Lies 1500 3000 (stemDensity wall)
+  pub base-density : Lies 1500 3000 (baseDensity wall)
+  pub moist-density : Lies 1000 3000 (moistDensity wall)
+  pub saturated-density : Lies 1000 3000 (saturatedDensity wall)
+  pub soil-density : Lies 1000 3000 (soilDensity wall)
+  pub active : Lies 1 1000 (activeCoefficient wall)
+  pub rest : Lies 1 1000 (restCoefficient wall)
+  pub passive : Lies 0 15000 (passiveCoefficient wall)
+  pub tangent : Lies 0 1000 (frictionTangent wall)
+  pub surcharge : Lies 0 10000 (surcharge wall)
+
+pub wall-within : (wall : Wall) → T (wallFits wall) → WallWithin wall
+wall-within wall fits =
+    record {
+      stem-height = of 1 tt refl;
+      stem-thickness = of 2 tt refl;
+      toe-length = of 3 tt refl;
+      heel-length = of 4 tt refl;
+      base-thickness = of 5 tt refl;
+      cover = of 6 tt refl;
+      excavation = of 7 tt refl;
+      water = water-below wall fits;
+      stem-density = of 9 tt refl;
+      base-density = of 10 tt refl;
+      moist-density = of 11 tt refl;
+      saturated-density = of 12 tt refl;
+      soil-density = of 13 tt refl;
+      active = of 14 tt refl;
+      rest = of 15 tt refl;
+      passive = of 16 tt refl;
+      tangent = of 17 tt refl;
+      surcharge = of 19 tt refl;
+    }
+  where
+    of : (i : ℕ) {low high : ℕ} → T (ltb i wallFields) → getD ranges i ABar ≡ Between low high → Lies low high (getD wall i 0)
+    of i {low} {high} h e = field-between wall fits i low high (ltb→lt i wallFields h) e
+
+-- the base's length and the wall's height, by those of their parts
+pub base-length : {wall : Wall} → WallWithin wall → Lies 200 11500 (baseLength wall)
+unfolding baseLength
+base-length w = omega arith
+
+pub wall-height : {wall : Wall} → WallWithin wall → wallHeight wall ≤ 9500
+unfolding wallHeight
+wall-height w = omega arith
 
 -- ---- a load that fits
 

@@ -67,7 +67,7 @@ entry-at file k h = record-at (entryAt file) 0 (loadCount file) k h ∙ ap (entr
 -- ---- tests that were passed
 
 -- where the first refusal of two is none, there is neither
-first-worked : (a b : Answer) → T (isWorked (a orElse b)) → T (isWorked a) × T (isWorked b)
+pub first-worked : (a b : Answer) → T (isWorked (a orElse b)) → T (isWorked a) × T (isWorked b)
 first-worked a b t = go (isWorked a) refl t
   where
     go : (worked : Bool) → isWorked a ≡ worked → T (isWorked (cond worked b a)) → T (isWorked a) × T (isWorked b)
@@ -152,7 +152,7 @@ length-is file t =
 -- ---- the walls
 
 -- a wall that is passed fits, and no later one is refused
-past-wall : (n : ℕ) (w : Wall) (ws : List Wall) → T (isWorked (firstBadWall n (w ∷ ws))) → T (wallFits w) × T (isWorked (firstBadWall (suc n) ws))
+pub past-wall : (n : ℕ) (w : Wall) (ws : List Wall) → T (isWorked (firstBadWall n (w ∷ ws))) → T (wallFits w) × T (isWorked (firstBadWall (suc n) ws))
 unfolding firstBadWall
 past-wall n w ws t =
     let h = first-worked (refusedIf (not (wallFits w)) (WallOutOfRange n)) (firstBadWall (suc n) ws) t in
@@ -171,7 +171,7 @@ walls-fit file t i h = rw (wall-at file i) at (each-wall 1 (walls file) (passed 
 -- ---- the loads
 
 -- an entry that is passed fits, is not one too many for its wall, and no later one is refused
-past-load : (there : List Wall) (before : List Entry) (n : ℕ) (e : Entry) (es : List Entry) → T (isWorked (firstBadLoad there before n (e ∷ es)))
+pub past-load : (there : List Wall) (before : List Entry) (n : ℕ) (e : Entry) (es : List Entry) → T (isWorked (firstBadLoad there before n (e ∷ es)))
     → T (entryFits there e) × T (not (isOneMore before e)) × T (isWorked (firstBadLoad there (before ++ e ∷ []) (suc n) es))
 unfolding firstBadLoad
 past-load there before n e es t =
@@ -246,7 +246,7 @@ still-few n before e few room = rw (loads-join n before (e ∷ []), length-appen
     go false on = omega arith
 
 -- and to the end, where no load is refused
-few-from : (n : ℕ) (there : List Wall) (before : List Entry) (first : ℕ) (es : List Entry) → T (isWorked (firstBadLoad there before first es))
+pub few-from : (n : ℕ) (there : List Wall) (before : List Entry) (first : ℕ) (es : List Entry) → T (isWorked (firstBadLoad there before first es))
     → length (loadsOn n before) ≤ mostLoadsOnWall → length (loadsOn n (before ++ es)) ≤ mostLoadsOnWall
 few-from n there before first [] t few = rw append-nil few
 few-from n there before first (e ∷ es) t few =

@@ -1,6 +1,10 @@
 pub mod Accepted
 pub mod AcceptedFile
+pub mod Additive
+pub mod Carries
+pub mod Examined
 pub mod Lever
 pub mod LoadsOfWalls
 pub mod Points
 pub mod Roundings
+pub mod Sizes

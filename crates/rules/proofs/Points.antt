@@ -13,8 +13,8 @@ use Rattle.rules.specs.declared.Kind.{Kind}
 use Rattle.rules.specs.declared.Kind.the-variants.{Full, FromToe, NoBlock}
 use Rattle.rules.specs.JobFile.{Wall, activeCoefficient, waterHeight, u16At, u32At, u32sAt, entriesAt, wallAt, recordsFrom, walls, entries, loadsOn, baseLength, wallHeight, among, within, firstOutside, firstBadField, wallFits}
 use Rattle.rules.specs.Answered.{countsFit, offsetsAndLengthFit, firstBadWall, firstBadLoad, firstRefusal}
-use Rattle.rules.specs.Forces.{saturatedHeight, stemWeight, baseWeight, saturatedWeight, moistWeight, surchargeWeight, surchargePush, moistPush, moistPushBelow, saturatedPush, waterPush, weightRows, pushRows, loadTable, table, columnSum, totals, service, factored, passiveDepth, passive, lastingWeight, friction, isPropped, slides, proppingForce}
-use Rattle.rules.specs.Bearing.{serviceScale, isNone, isFull, isFromToe, isFromHeel, kindOf, ofKind, blockOf, reported, peak, given, blockUnder, serviceBlock, factoredBlock}
+use Rattle.rules.specs.Forces.{saturatedHeight, stemWeight, baseWeight, saturatedWeight, moistWeight, surchargeWeight, surchargePush, moistPush, moistPushBelow, saturatedPush, waterPush, weightRows, pushRows, loadRow, deadRow, liveRow, loadTable, table, columnSum, totals, service, factored, passiveDepth, passive, lastingWeight, frictionUnder, isPropped, slidingUnder, slidingOf}
+use Rattle.rules.specs.Bearing.{serviceScale, isNone, isFull, isFromToe, isFromHeel, kindOf, ofKind, blockOf, reported, peak, given, blockUnder, serviceBlock, factoredBlock, pressedBy}
 use Rattle.rules.specs.ToeAndStem.{scaled, pressureBy, pressureAt, twiceArm, toeWorked, shearOfBearing, shearOfWeight, momentOfBearing, momentOfWeight, toeShear, toeMoment, stemLoadTable, stemTable, stemShear, stemMoment, toeSection, stemSection, twiceDepth, needsCompression, bears, greatest, leverArm, neededArea, leastArea, besides, barArea, providedArea, requiredArea, steelFails, shearFails, toeArea, stemArea, toeSteelFails, stemSteelFails, toeShearFails, stemShearFails}
 use Rattle.rules.specs.SheetLine.{ascii, fails, failuresAmong, failures, line, linesFrom, sheet, joined, digits, decimal, signedDecimal, twoHexDigits, lineRest, lineText, printed}
 
@@ -55,7 +55,7 @@ excavatedA = set wallA 7 400
 
 -- ---- a block of R 600 on a base of 3000: its kind, and the pressures reported of it
 
-pub record Pressed : Type 0 where
+pub record Shown : Type 0 where
   pub shape : Kind
   pub toe : ℕ
   pub heel : ℕ
@@ -63,10 +63,9 @@ pub record Pressed : Type 0 where
 unfoldable pub blockAt : ℕ → Block
 blockAt M6 = given serviceScale (blockOf (pos 600) (pos M6) (pos 3000))
 
-unfoldable pub pressed : ℕ → Pressed
+unfoldable pub shown : ℕ → Shown
 unfolding blockAt
-pressed M6 =
-    let b = blockAt M6 in record { shape = b .kind; toe = reported serviceScale (b .toe); heel = reported serviceScale (b .heel) }
+shown M6 = let p = pressedBy serviceScale (blockAt M6) in record { shape = p .block .kind; toe = p .toe; heel = p .heel }
 
 -- ---- the points
 
@@ -79,11 +78,11 @@ points =
     ∷ point ℕ (providedArea 25 175) 2804  -- P3
     ∷ point ℕ (providedArea 12 200) 565
     ∷ point ℕ (passive excavatedA) 0  -- P4
-    ∷ point Pressed (pressed 3600000) (record { shape = Full; toe = 400; heel = 0 })  -- P5
-    ∷ point Pressed (pressed 3599999) (record { shape = FromToe; toe = 401; heel = 0 })  -- P6
+    ∷ point Shown (shown 3600000) (record { shape = Full; toe = 400; heel = 0 })  -- P5
+    ∷ point Shown (shown 3599999) (record { shape = FromToe; toe = 401; heel = 0 })  -- P6
     ∷ point Fraction (blockAt 3599999 .contact) (record { over = pos 3599999; under = pos 1200 })
-    ∷ point Pressed (pressed 7200000) (record { shape = Full; toe = 0; heel = 400 })  -- P7
-    ∷ point Pressed (pressed 0) (record { shape = NoBlock; toe = 0; heel = 0 })  -- P8
+    ∷ point Shown (shown 7200000) (record { shape = Full; toe = 0; heel = 400 })  -- P7
+    ∷ point Shown (shown 0) (record { shape = NoBlock; toe = 0; heel = 0 })  -- P8
     ∷ point ℕ (leverArm 352257360 35 508) 394  -- P9
     ∷ point Bool (needsCompression 352257360 35 508) false
     ∷ point Bool (needsCompression 352257361 35 508) true
@@ -96,5 +95,5 @@ Hold [] = Unit
 Hold (p ∷ rest) = (p .worked ≡ p .wanted) × Hold rest
 
 pub points-hold : Hold points
-unfolding excavatedA pressed u16At u32At u32sAt entriesAt wallAt recordsFrom walls entries loadsOn baseLength wallHeight among within firstOutside firstBadField wallFits countsFit offsetsAndLengthFit firstBadWall firstBadLoad firstRefusal saturatedHeight stemWeight baseWeight saturatedWeight moistWeight surchargeWeight surchargePush moistPush moistPushBelow saturatedPush waterPush weightRows pushRows loadTable table columnSum totals service factored passiveDepth passive lastingWeight friction isPropped slides proppingForce isNone isFull isFromToe isFromHeel kindOf ofKind blockOf reported peak given blockUnder serviceBlock factoredBlock scaled pressureBy pressureAt twiceArm toeWorked shearOfBearing shearOfWeight momentOfBearing momentOfWeight toeShear toeMoment stemLoadTable stemTable stemShear stemMoment toeSection stemSection twiceDepth needsCompression bears greatest leverArm neededArea leastArea besides barArea providedArea requiredArea steelFails shearFails toeArea stemArea toeSteelFails stemSteelFails toeShearFails stemShearFails fails failuresAmong failures line linesFrom sheet joined digits decimal signedDecimal twoHexDigits lineRest lineText printed roundedUp roundedDown roundedNearest sumOf
+unfolding excavatedA shown u16At u32At u32sAt entriesAt wallAt recordsFrom walls entries loadsOn baseLength wallHeight among within firstOutside firstBadField wallFits countsFit offsetsAndLengthFit firstBadWall firstBadLoad firstRefusal saturatedHeight stemWeight baseWeight saturatedWeight moistWeight surchargeWeight surchargePush moistPush moistPushBelow saturatedPush waterPush weightRows pushRows loadRow deadRow liveRow loadTable table columnSum totals service factored passiveDepth passive lastingWeight frictionUnder isPropped slidingUnder slidingOf isNone isFull isFromToe isFromHeel kindOf ofKind blockOf reported peak given blockUnder serviceBlock factoredBlock pressedBy scaled pressureBy pressureAt twiceArm toeWorked shearOfBearing shearOfWeight momentOfBearing momentOfWeight toeShear toeMoment stemLoadTable stemTable stemShear stemMoment toeSection stemSection twiceDepth needsCompression bears greatest leverArm neededArea leastArea besides barArea providedArea requiredArea steelFails shearFails toeArea stemArea toeSteelFails stemSteelFails toeShearFails stemShearFails fails failuresAmong failures line linesFrom sheet joined digits decimal signedDecimal twoHexDigits lineRest lineText printed roundedUp roundedDown roundedNearest sumOf
 points-hold = (refl, (refl, (refl, (refl, (refl, (refl, (refl, (refl, (refl, (refl, (refl, (refl, (refl, (refl, (refl, (refl, tt))))))))))))))))

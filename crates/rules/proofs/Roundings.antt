@@ -7,7 +7,7 @@ use Rattle.whole.specs.Parts.{aboveZero}
 use Rattle.whole.specs.Rounding.{roundedUp, roundedDown, roundedNearest}
 use Rattle.whole.proofs.Rounded.{up-enough, up-least, down-within, down-greatest, nearest-low, nearest-high}
 use Rattle.rules.specs.JobFile.{Wall, Load, stemHeight, stemThickness, heelLength, baseThickness, stemDensity, baseDensity, moistDensity, saturatedDensity, soilDensity, passiveCoefficient, frictionTangent, surcharge, baseLength}
-use Rattle.rules.specs.Forces.{perVolume, perArea, thousandths, waterDensity, squared, saturatedHeight, stemWeight, baseWeight, saturatedWeight, moistWeight, surchargeWeight, surchargePush, moistPush, moistPushBelow, saturatedPush, waterPush, passiveDepth, passive, lastingWeight, friction}
+use Rattle.rules.specs.Forces.{perVolume, perArea, thousandths, waterDensity, squared, saturatedHeight, stemWeight, baseWeight, saturatedWeight, moistWeight, surchargeWeight, surchargePush, moistPush, moistPushBelow, saturatedPush, waterPush, passiveDepth, passive, lastingWeight, frictionUnder, slidingUnder, slidingOf, friction}
 
 -- n is a / b, to the nearest: at most a half too much, and less than a half too little
 pub record Nearest (n a b : ℕ) : Type 0 where
@@ -85,5 +85,5 @@ unfolding passive
 passive-force wall = down _ (lit< tt)
 
 pub friction-force : (wall : Wall) (loads : List Load) → GreatestWithin (friction wall loads) (frictionTangent wall * aboveZero (lastingWeight wall loads)) thousandths
-unfolding friction
+unfolding slidingOf slidingUnder frictionUnder
 friction-force wall loads = down _ (lit< tt)

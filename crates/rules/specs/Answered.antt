@@ -1,12 +1,12 @@
 -- Document 01, "What is answered": each answer's number and place, and the first refusal of a job file in the order of the tests.
 use Prim.Native.Nat.{ℕ, suc, _+_, _-_, _*_}
 use mathlib.Core.Bool.{Bool, not, _&&_, cond}
-use mathlib.Core.List.{List, [], _∷_, _++_}
+use mathlib.Core.List.{List, [], _∷_, _++_, map}
 use lib.Dec.{leb, ltb, eqb}
 use lib.ListN.{length, getD}
 use Rattle.rules.specs.declared.Answer.{Answer}
 use Rattle.rules.specs.declared.Answer.the-variants.{Worked, TooShort, WrongEdition, CountOutOfRange, WrongOffsetOrLength, WallOutOfRange, LoadOutOfRange, NinthLoad, BufferTooShort, NoSuchWall}
-use Rattle.rules.specs.JobFile.{File, Wall, Entry, headerBytes, edition, wallCount, firstWallOffset, loadCount, firstLoadOffset, wholeLength, entryBytes, mostWalls, mostLoads, mostLoadsOnWall, entriesAt, walls, entries, wallFits, wallOf, loadOf, loadFits, loadsOn}
+use Rattle.rules.specs.JobFile.{File, Wall, Load, Entry, headerBytes, edition, wallCount, firstWallOffset, loadCount, firstLoadOffset, wholeLength, entryBytes, mostWalls, mostLoads, mostLoadsOnWall, entriesAt, walls, entries, wallFits, wallOf, loadOf, loadFits, loadsOn}
 
 -- a refusal's number; 0 says that the job is worked
 abbrev pub number : Answer → ℕ
@@ -101,3 +101,14 @@ firstRefusal file =
 -- a job that is accepted has none of these
 abbrev pub accepted : File → Bool
 accepted file = isWorked (firstRefusal file)
+
+-- ---- one wall with its loads, which are numbered from 1: as a file is answered that has just these, its header apart
+
+abbrev pub alone : Load → Entry
+alone load = 1 ∷ load
+
+unfoldable pub examined : Wall → List Load → Answer
+examined wall loads = firstBadWall 1 (wall ∷ []) orElse firstBadLoad (wall ∷ []) [] 1 (map alone loads)
+
+abbrev pub fits : Wall → List Load → Bool
+fits wall loads = isWorked (examined wall loads)

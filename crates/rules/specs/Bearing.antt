@@ -14,8 +14,11 @@ use Rattle.rules.specs.declared.Fraction.{Fraction}
 use Rattle.rules.specs.declared.Kind.{Kind}
 use Rattle.rules.specs.declared.Kind.the-variants.{Full, FromToe, FromHeel, NoBlock}
 use Rattle.rules.specs.declared.Block.{Block}
+use Rattle.rules.specs.declared.Pressed.{Pressed}
+use Rattle.rules.specs.declared.Borne.{Borne}
 use Rattle.rules.specs.JobFile.{Wall, Load, baseLength}
-use Rattle.rules.specs.Forces.{service, factored}
+use Rattle.rules.specs.Answered.{fits}
+use Rattle.rules.specs.Forces.{service, factored, forcesOf}
 
 -- ---- fractions
 
@@ -112,6 +115,9 @@ kindOf R M6 l =
     cond (isNone M6) NoBlock
     (cond (isFull R M6 l) Full (cond (isFromToe R M6 l) FromToe (cond (isFromHeel R M6 l) FromHeel NoBlock)))
 
+abbrev pub noBlock : Block
+noBlock = record { kind = NoBlock; toe = overOne (pos 0); heel = overOne (pos 0); contact = overOne (pos 0) }
+
 unfoldable pub ofKind : Kind → ℤ → ℤ → ℤ → Block
 ofKind Full R M6 l =
     record { kind = Full; toe = pos 4 *ℤ R *ℤ l -ℤ M6 over l *ℤ l; heel = M6 -ℤ pos 2 *ℤ R *ℤ l over l *ℤ l; contact = overOne l }
@@ -120,7 +126,7 @@ ofKind FromToe R M6 l =
 ofKind FromHeel R M6 l =
     let N = pos 6 *ℤ R *ℤ l -ℤ M6 in
     record { kind = FromHeel; toe = overOne (pos 0); heel = pos 4 *ℤ R *ℤ R over N; contact = N over pos 2 *ℤ R }
-ofKind NoBlock R M6 l = record { kind = NoBlock; toe = overOne (pos 0); heel = overOne (pos 0); contact = overOne (pos 0) }
+ofKind NoBlock R M6 l = noBlock
 
 unfoldable pub blockOf : ℤ → ℤ → ℤ → Block
 blockOf R M6 l = ofKind (kindOf R M6 l) R M6 l
@@ -143,7 +149,7 @@ peak scale b = max (reported scale (b .toe)) (reported scale (b .heel))
 
 -- not given where it reports more than 2000000 N/m2
 unfoldable pub given : ℕ → Block → Block
-given scale b = cond (leb (peak scale b) 2000000) b (ofKind NoBlock (pos 0) (pos 0) (pos 0))
+given scale b = cond (leb (peak scale b) 2000000) b noBlock
 
 unfoldable pub blockUnder : ℕ → Totals → Wall → Block
 blockUnder scale t wall = given scale (blockOf (t .vertical) (t .moment) (pos (baseLength wall)))
@@ -163,3 +169,17 @@ isGivenKind NoBlock = false
 
 abbrev pub isGiven : Block → Bool
 isGiven b = isGivenKind (b .kind)
+
+-- ---- the pressures that are reported of it, which are 0 where it isn't given
+
+unfoldable pub pressedBy : ℕ → Block → Pressed
+pressedBy scale b = record { block = b; toe = reported scale (b .toe); heel = reported scale (b .heel) }
+
+-- what is answered of one wall with its loads: its forces and its blocks; of a refused one, that no block is given
+unfoldable pub bearingOf : Wall → List Load → Borne
+bearingOf wall loads =
+    record {
+      forces = forcesOf wall loads;
+      service = pressedBy serviceScale (cond (fits wall loads) (serviceBlock wall loads) noBlock);
+      factored = pressedBy factoredScale (cond (fits wall loads) (factoredBlock wall loads) noBlock);
+    }

@@ -1,8 +1,8 @@
 -- Document 01, "Forces": the component table, its totals in service and factored, and what holds a wall against sliding.
 -- Forces are in N, on a metre's run of wall, and moments in exact sixths of a N mm.
 use Prim.Native.Nat.{ℕ, _+_, _-_, _*_}
-use mathlib.Core.Bool.{Bool, not, _&&_, cond}
-use mathlib.Core.List.{List, [], _∷_, _++_}
+use mathlib.Core.Bool.{Bool, false, not, _&&_, cond}
+use mathlib.Core.List.{List, [], _∷_, _++_, map}
 use lib.Dec.{eqb}
 use lib.ListN.{getD}
 use lib.IntN.{ℤ, pos, _+ℤ_, _-ℤ_, _*ℤ_}
@@ -10,8 +10,13 @@ use lib.Signed.{ltZ}
 use Rattle.whole.specs.Parts.{aboveZero}
 use Rattle.whole.specs.Rounding.{roundedUp, roundedDown, roundedNearest}
 use Rattle.whole.specs.Sum.{sumOf}
+use Rattle.rules.specs.declared.Answer.{Answer}
+use Rattle.rules.specs.declared.Answer.the-variants.{Worked}
 use Rattle.rules.specs.declared.Totals.{Totals}
+use Rattle.rules.specs.declared.Sliding.{Sliding}
+use Rattle.rules.specs.declared.Forces.{Forces}
 use Rattle.rules.specs.JobFile.{Wall, Load, kind, stemHeight, stemThickness, toeLength, heelLength, baseThickness, coverInFront, excavation, waterHeight, stemDensity, baseDensity, moistDensity, saturatedDensity, soilDensity, activeCoefficient, restCoefficient, passiveCoefficient, frictionTangent, surcharge, baseLength, wallHeight, isDown, position, deadLoad, liveLoad}
+use Rattle.rules.specs.Answered.{examined, fits}
 
 -- ---- units
 
@@ -115,16 +120,20 @@ pushRows wall K h hw =
     ∷ across deadPush (waterPush hw) (2 * hw)
     ∷ []
 
--- the dead and the live part of a load
-unfoldable pub loadRows : Load → List Component
-loadRows load =
-    cond (isDown load)
-    (down deadWeight (deadLoad load) (6 * position load) ∷ down liveWeight (liveLoad load) (6 * position load) ∷ [])
-    (across deadPush (deadLoad load) (6 * position load) ∷ across livePush (liveLoad load) (6 * position load) ∷ [])
+-- one part of a load: a weight where the load acts down, and a push where it acts across
+unfoldable pub loadRow : Sort → Sort → (Load → ℕ) → Load → Component
+loadRow weight push part load =
+    cond (isDown load) (down weight (part load) (6 * position load)) (across push (part load) (6 * position load))
 
+unfoldable pub deadRow : Load → Component
+deadRow load = loadRow deadWeight deadPush deadLoad load
+
+unfoldable pub liveRow : Load → Component
+liveRow load = loadRow liveWeight livePush liveLoad load
+
+-- the dead part of every load, and then the live part of every load
 unfoldable pub loadTable : List Load → List Component
-loadTable [] = []
-loadTable (load ∷ rest) = loadRows load ++ loadTable rest
+loadTable loads = map deadRow loads ++ map liveRow loads
 
 unfoldable pub table : ℕ → Wall → List Load → List Component
 table K wall loads = weightRows wall ++ pushRows wall K (wallHeight wall) (waterHeight wall) ++ loadTable loads
@@ -208,15 +217,48 @@ unfoldable pub lastingWeight : Wall → List Load → ℤ
 lastingWeight wall loads =
     service wall loads .vertical -ℤ columnSum rests vertical (table (activeCoefficient wall) wall loads)
 
-unfoldable pub friction : Wall → List Load → ℕ
-friction wall loads = roundedDown (frictionTangent wall * aboveZero (lastingWeight wall loads)) thousandths
+unfoldable pub frictionUnder : Wall → ℤ → ℕ
+frictionUnder wall weight = roundedDown (frictionTangent wall * aboveZero weight) thousandths
 
 unfoldable pub isPropped : Wall → Bool
 isPropped wall = eqb (kind wall) 1
 
-unfoldable pub slides : Wall → List Load → Bool
-slides wall loads = not (isPropped wall) && ltZ (pos (passive wall + friction wall loads)) (service wall loads .horizontal)
+-- under a weight that lasts, against a push H
+unfoldable pub slidingUnder : Wall → ℤ → ℤ → Sliding
+slidingUnder wall weight H =
+    record {
+      passive = passive wall;
+      friction = frictionUnder wall weight;
+      slides = not (isPropped wall) && ltZ (pos (passive wall + frictionUnder wall weight)) H;
+      propping = cond (isPropped wall) (aboveZero (H -ℤ pos (passive wall) -ℤ pos (frictionUnder wall weight))) 0;
+    }
 
-unfoldable pub proppingForce : Wall → List Load → ℕ
-proppingForce wall loads =
-    cond (isPropped wall) (aboveZero (service wall loads .horizontal -ℤ pos (passive wall) -ℤ pos (friction wall loads))) 0
+unfoldable pub slidingOf : Wall → List Load → Sliding
+slidingOf wall loads = slidingUnder wall (lastingWeight wall loads) (service wall loads .horizontal)
+
+abbrev pub friction : Wall → List Load → ℕ
+friction wall loads = slidingOf wall loads .friction
+
+abbrev pub slides : Wall → List Load → Bool
+slides wall loads = slidingOf wall loads .slides
+
+abbrev pub proppingForce : Wall → List Load → ℕ
+proppingForce wall loads = slidingOf wall loads .propping
+
+-- ---- what is answered of one wall with its loads: its forces, or a refusal and every figure 0
+
+abbrev pub noTotals : Totals
+noTotals = record { vertical = pos 0; horizontal = pos 0; restoring = pos 0; overturning = pos 0; moment = pos 0 }
+
+abbrev pub noSliding : Sliding
+noSliding = record { passive = 0; friction = 0; slides = false; propping = 0 }
+
+abbrev pub noForces : Answer → Forces
+noForces refusal = record { answer = refusal; service = noTotals; factored = noTotals; sliding = noSliding }
+
+unfoldable pub workedForces : Wall → List Load → Forces
+workedForces wall loads =
+    record { answer = Worked; service = service wall loads; factored = factored wall loads; sliding = slidingOf wall loads }
+
+unfoldable pub forcesOf : Wall → List Load → Forces
+forcesOf wall loads = cond (fits wall loads) (workedForces wall loads) (noForces (examined wall loads))

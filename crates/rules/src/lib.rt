@@ -38,6 +38,23 @@ pub struct Totals {
     pub moment: i64,
 }
 
+// What holds a wall against sliding: passive force and friction in N, whether an unpropped wall slides all the same, and what a prop has to
+// take of a propped one.
+pub struct Sliding {
+    pub passive: u64,
+    pub friction: u64,
+    pub slides: bool,
+    pub propping: u64,
+}
+
+// The forces on a wall under its loads: the answer, the totals in service and factored, and what holds the wall. A refusal has 0 for each figure.
+pub struct Forces {
+    pub answer: Answer,
+    pub service: Totals,
+    pub factored: Totals,
+    pub sliding: Sliding,
+}
+
 // A fraction, which is not reduced.
 pub struct Fraction {
     pub over: i64,
@@ -59,6 +76,20 @@ pub struct Block {
     pub toe: Fraction,
     pub heel: Fraction,
     pub contact: Fraction,
+}
+
+// A block as it is given, and the pressures reported of it at the toe and at the heel, in N/m2.
+pub struct Pressed {
+    pub block: Block,
+    pub toe: u64,
+    pub heel: u64,
+}
+
+// The forces on a wall, and the blocks that bear them.
+pub struct Borne {
+    pub forces: Forces,
+    pub service: Pressed,
+    pub factored: Pressed,
 }
 
 // A metre of toe or stem as the steel sees it: lengths in mm, the concrete's shear stress in 1/1000 N/mm2, strengths in N/mm2, and the

@@ -9,7 +9,7 @@ use native.Mathlib.Nat.{mul-le-mul, mul-le-mul-right, mul-lt-mul-of-pos-right, e
 use native.Mathlib.Omega.{arith}
 use lib.Dec.{T, ltb, ltb→lt, lt→ltb, nltb→le, le→leb, leb→le, nleb→lt}
 use lib.IntN.{ℤ, pos, negsuc, negℤ, natAbs, subℕ, _+ℤ_, _-ℤ_, _*ℤ_, +ℤ-assoc, +ℤ-comm, +ℤ-invl, +ℤ-idl, +ℤ-negℤ-cancel, negℤ-+ℤ, *ℤ-comm}
-use lib.Signed.{mag, leZ, ltZ, _≤ℤ_, _<ℤ_, ≤ℤ-refl, leZ-yes, ltZ-yes, ltZ-no, yes-nonNeg, pos-natAbs}
+use lib.Signed.{mag, leZ, ltZ, _≤ℤ_, _<ℤ_, ≤ℤ-refl, clashℤ, leZ-yes, ltZ-yes, ltZ-no, yes-nonNeg, pos-natAbs}
 use Rattle.whole.specs.Parts.{aboveZero, belowZero}
 use mir.Syntax.{w64}
 use mir.Val.{SFits, toZ, ofZ}
@@ -228,6 +228,28 @@ ltZ-true e = ltZ-yes (rw e tt)
 pub ltZ-false : {a b : ℤ} → ltZ a b ≡ false → b ≤ℤ a
 ltZ-false e = ltZ-no (rw e tt)
 
+-- and it decides the test; the strict one is the contrary of the other
+pub le-leZ : {a b : ℤ} → a ≤ℤ b → leZ a b ≡ true
+le-leZ {a} {b} h = go (leZ a b) refl
+  where
+    go : (t : Bool) → leZ a b ≡ t → t ≡ true
+    go true e = refl
+    go false e = clashℤ (leZ-false e) h
+
+pub lt-leZ : {a b : ℤ} → b <ℤ a → leZ a b ≡ false
+lt-leZ {a} {b} h = go (leZ a b) refl
+  where
+    go : (t : Bool) → leZ a b ≡ t → t ≡ false
+    go true e = clashℤ h (leZ-true e)
+    go false e = refl
+
+pub ltZ-leZ : (a b : ℤ) → ltZ a b ≡ not (leZ b a)
+ltZ-leZ a b = go (ltZ a b) refl
+  where
+    go : (t : Bool) → ltZ a b ≡ t → t ≡ not (leZ b a)
+    go true e = rw (lt-leZ (ltZ-true e))
+    go false e = rw (le-leZ (ltZ-false e))
+
 pub ≤ℤ-or-<ℤ : (a b : ℤ) → (a ≤ℤ b) ⊎ (b <ℤ a)
 ≤ℤ-or-<ℤ a b = go (leZ a b) refl
   where
@@ -241,6 +263,10 @@ pos-≤ℤ {a} {b} = (λ h. leb→le a b (h .le), λ h. leZ-yes (le→leb a b h)
 
 pub pos-<ℤ : {a b : ℕ} → (pos a <ℤ pos b) ↔ (a < b)
 pos-<ℤ {a} {b} = (λ h. ltb→lt a b (h .lt), λ h. ltZ-yes (lt→ltb a b h))
+
+-- the difference of two, where it is not negative
+pub pos-sub : {a b : ℕ} → b ≤ a → pos a -ℤ pos b ≡ pos (a - b)
+pos-sub {a} {b} h = diff-eq (diff-sub (itself (pos a)) (itself (pos b))) (itself (pos (a - b))) (omega arith)
 
 -- sums keep it, and so do products by what is not negative
 pub +ℤ-mono-≤ℤ : {a b c d : ℤ} → a ≤ℤ b → c ≤ℤ d → (a +ℤ c) ≤ℤ (b +ℤ d)
@@ -259,6 +285,17 @@ pub *ℤ-mono-<ℤ : (n : ℕ) {a b : ℤ} → a <ℤ b → (a *ℤ pos (suc n))
     diff-lt (a *ℤ pos (suc n)) (b *ℤ pos (suc n)) (times a (suc n)) (times b (suc n))
     (omega (arith, mul-lt-mul-of-pos-right {k = suc n} (lt-parts h) (omega arith)))
 
+-- the difference from a number to one no less is not negative, and to a greater one it is above 0
+pub sub-nonneg : {a b : ℤ} → a ≤ℤ b → pos 0 ≤ℤ (b -ℤ a)
+sub-nonneg {a} {b} h = diff-le (pos 0) (b -ℤ a) (itself (pos 0)) (diff-sub (itself b) (itself a)) (omega (arith, le-parts h))
+
+pub sub-above : {a b : ℤ} → a <ℤ b → pos 0 <ℤ (b -ℤ a)
+sub-above {a} {b} h = diff-lt (pos 0) (b -ℤ a) (itself (pos 0)) (diff-sub (itself b) (itself a)) (omega (arith, lt-parts h))
+
+-- what is not negative, taken away, leaves no more
+pub sub-<ℤ : {a b c : ℤ} → pos 0 ≤ℤ a → b <ℤ c → (b -ℤ a) <ℤ c
+sub-<ℤ {a} {b} {c} h k = diff-lt (b -ℤ a) c (diff-sub (itself b) (itself a)) (itself c) (omega (arith, le-parts h, lt-parts k))
+
 -- what is not negative is its absolute value, and its part above 0
 pub nonneg-abs : {z : ℤ} → pos 0 ≤ℤ z → z ≡ pos (natAbs z)
 nonneg-abs {z} h = sym (pos-natAbs z (yes-nonNeg h))
@@ -267,14 +304,49 @@ pub nonneg-aboveZero : {z : ℤ} → pos 0 ≤ℤ z → z ≡ pos (aboveZero z)
 nonneg-aboveZero {z = pos n} h = refl
 nonneg-aboveZero {z = negsuc n} h = absurd (h .le)
 
+-- it is a natural number, and what is above 0 is one above 0: a match puts that number in its place
+pub data Whole : ℤ → Type 0 where
+  whole : (n : ℕ) → Whole (pos n)
+
+pub is-whole : {z : ℤ} → pos 0 ≤ℤ z → Whole z
+is-whole {z = pos n} h = whole n
+is-whole {z = negsuc n} h = absurd (h .le)
+
+pub data Above : ℤ → Type 0 where
+  above : (n : ℕ) → 0 < n → Above (pos n)
+
+pub is-above : {z : ℤ} → pos 0 <ℤ z → Above z
+is-above {z = pos n} h = above n (pos-<ℤ .0 h)
+is-above {z = negsuc n} h = absurd (h .lt)
+
+-- what is below a natural number has no more than that above 0
+pub above-most : (z : ℤ) {n : ℕ} → z <ℤ pos n → aboveZero z ≤ n
+above-most (pos m) h = omega (arith, pos-<ℤ .0 h)
+above-most (negsuc m) h = omega arith
+
+-- a difference's part above 0
+pub above-diff : (z : ℤ) {p n : ℕ} → Diff z p n → aboveZero z ≡ p - n
+above-diff (pos a) d = omega (arith, diff-pos a d)
+above-diff (negsuc a) d = omega (arith, diff-negsuc a d)
+
 pub *ℤ-nonneg : {a b : ℤ} → pos 0 ≤ℤ a → pos 0 ≤ℤ b → pos 0 ≤ℤ (a *ℤ b)
 *ℤ-nonneg h k = rw (nonneg-abs h, nonneg-abs k) (pos-≤ℤ .1 (omega arith))
+
+-- a factor of what is not negative isn't, where the other is above 0
+pub nonneg-factor : {a : ℤ} {n : ℕ} → 0 < n → pos 0 ≤ℤ (a *ℤ pos n) → pos 0 ≤ℤ a
+nonneg-factor {a = pos k} h p = pos-≤ℤ .1 (omega arith)
+nonneg-factor {a = negsuc k} {n} h p = absurd (omega (arith, le-diff (pos 0) (negsuc k *ℤ pos n) (itself (pos 0)) (times (negsuc k) n) p))
 
 -- ---- bounds of the absolute value
 pub abs-neg : (x : ℤ) → natAbs (negℤ x) ≡ natAbs x
 abs-neg (pos zero) = refl
 abs-neg (pos (suc n)) = refl
 abs-neg (negsuc n) = refl
+
+-- a number is below what its absolute value is below
+pub abs-<ℤ : (x : ℤ) {b : ℕ} → natAbs x < b → x <ℤ pos b
+abs-<ℤ (pos a) h = pos-<ℤ .1 h
+abs-<ℤ (negsuc a) h = ltZ-yes tt
 
 pub abs-add : (x y : ℤ) → natAbs (x +ℤ y) ≤ natAbs x + natAbs y
 abs-add x y =

@@ -1,14 +1,15 @@
 -- The laws of `sumTo`, a sum over the indices below a number, and of `sumOf`, a sum over the elements of a list. Assumes nothing.
 use mathlib.Core.Path.{_≡_, refl, sym, ap, _∙_}
-use mathlib.Core.List.{List, [], _∷_, _++_, map}
+use mathlib.Core.List.{List, [], _∷_, _++_, map, Perm, List·Permᴰ, List·Permᴰ·nil, List·Permᴰ·cons, List·Permᴰ·swap, List·Permᴰ·trans}
+use mathlib.Core.Logic.{⊎-elim}
 use Prim.Native.Nat.{ℕ, zero, suc, _+_, _*_, _≤_, _<_}
-use native.Mathlib.Nat.{add-zero, add-suc}
+use native.Mathlib.Nat.{add-zero, add-suc, eq-or-lt-of-le}
 use native.Mathlib.Omega.{arith}
-use lib.IntN.{ℤ, pos, natAbs, _+ℤ_, _-ℤ_, _*ℤ_, +ℤ-assoc, +ℤ-comm, +ℤ-idl, +ℤ-idr, *ℤ-zero}
+use lib.IntN.{ℤ, pos, natAbs, _+ℤ_, _-ℤ_, _*ℤ_, +ℤ-assoc, +ℤ-comm, +ℤ-idl, +ℤ-idr, *ℤ-zero, ℤ-set}
 use lib.ListN.{getD, length}
-use lib.Signed.{_≤ℤ_, ≤ℤ-refl}
+use lib.Signed.{_≤ℤ_, _<ℤ_, ≤ℤ-refl}
 use Rattle.whole.specs.Sum.{sumTo, sumOf}
-use Rattle.whole.proofs.Integer.{*ℤ-+ℤ, +ℤ-swap, sub-swap, +ℤ-mono-≤ℤ, abs-add}
+use Rattle.whole.proofs.Integer.{*ℤ-+ℤ, +ℤ-swap, sub-swap, +ℤ-mono-≤ℤ, +ℤ-mono-<ℤ, abs-add}
 
 -- ---- over indices
 -- equal terms give equal sums
@@ -63,6 +64,17 @@ unfolding sumTo
 sumTo-nonneg f zero h = ≤ℤ-refl (pos 0)
 sumTo-nonneg f (suc n) h = +ℤ-mono-≤ℤ (sumTo-nonneg f n (λ i k. h i (omega arith))) (h n (omega arith))
 
+-- where besides one term is less, the sum is less
+pub sumTo-less : (f g : ℕ → ℤ) (n k : ℕ) → ((i : ℕ) → i < n → f i ≤ℤ g i) → k < n → f k <ℤ g k → sumTo f n <ℤ sumTo g n
+unfolding sumTo
+sumTo-less f g zero k h below less = absurd (omega arith)
+sumTo-less f g (suc n) k h below less =
+    ⊎-elim
+    (λ (e : suc k ≡ suc n). rw (+ℤ-comm (sumTo f n) (f n), +ℤ-comm (sumTo g n) (g n))
+    (+ℤ-mono-<ℤ (let same : k ≡ n = omega arith in rw same at less) (sumTo-mono f g n (λ i l. h i (omega arith)))))
+    (λ (l : suc k < suc n). +ℤ-mono-<ℤ (sumTo-less f g n k (λ i l. h i (omega arith)) (omega arith) less) (h n (omega arith)))
+    (eq-or-lt-of-le below)
+
 -- the first term apart, where the definition takes the last
 pub sumTo-first : (f : ℕ → ℤ) (n : ℕ) → sumTo f (suc n) ≡ f 0 +ℤ sumTo (λ i. f (suc i)) n
 unfolding sumTo
@@ -106,6 +118,17 @@ module _ {A : Type 0} where
   sumOf-map f g [] = refl
   sumOf-map f g (x ∷ xs) = ap (λ z. f (g x) +ℤ z) (sumOf-map f g xs)
 
+  -- in any order the elements have the same sum
+  pub sumOf-reordered : (f : A → ℤ) {xs ys : List A} → Perm xs ys → sumOf f xs ≡ sumOf f ys
+  unfolding sumOf
+  sumOf-reordered f {xs} {ys} = ∥∥₁-rec (ℤ-set (sumOf f xs) (sumOf f ys)) go
+    where
+      go : {xs ys : List A} → List·Permᴰ xs ys → sumOf f xs ≡ sumOf f ys
+      go List·Permᴰ·nil = refl
+      go (List·Permᴰ·cons e p) = cc (e, go p)
+      go (List·Permᴰ·swap {a} {b} {l = l} d e) = cc (d, e, +ℤ-assoc (f a) (f b) (sumOf f l), +ℤ-comm (f a) (f b), +ℤ-assoc (f b) (f a) (sumOf f l))
+      go (List·Permᴰ·trans p q) = go p ∙ go q
+
   pub sumOf-abs : (f : A → ℤ) {b : ℕ} (xs : List A) → ((x : A) → natAbs (f x) ≤ b) → natAbs (sumOf f xs) ≤ length xs * b
   unfolding sumOf
   sumOf-abs f [] h = omega arith
@@ -126,3 +149,25 @@ module _ {A : Type 0} where
   unfolding sumOf sumTo
   sumOf-sumTo f d [] = refl
   sumOf-sumTo f d (x ∷ xs) = ap (λ z. f x +ℤ z) (sumOf-sumTo f d xs) ∙ sym (sumTo-first (λ i. f (getD (x ∷ xs) i d)) (length xs))
+
+  -- by those indices: where no element's term is greater, and one's is less, the sum is less
+  pub sumOf-less : (f g : A → ℤ) (d : A) (xs : List A) (k : ℕ) → ((i : ℕ) → f (getD xs i d) ≤ℤ g (getD xs i d)) → k < length xs
+      → f (getD xs k d) <ℤ g (getD xs k d) → sumOf f xs <ℤ sumOf g xs
+  sumOf-less f g d xs k h below less = rw (sumOf-sumTo f d xs, sumOf-sumTo g d xs) (sumTo-less _ _ _ k (λ i _. h i) below less)
+
+-- ---- what every element of a list has
+abbrev pub All : {A : Type 0} → (A → Type 0) → List A → Type 0
+All P [] = Unit
+All P (x ∷ xs) = P x × All P xs
+
+module _ {A : Type 0} (P : A → Type 0) where
+  -- every element of two lists joined has it too
+  pub all-joined : (xs ys : List A) → All P xs → All P ys → All P (xs ++ ys)
+  all-joined [] ys a b = b
+  all-joined (x ∷ xs) ys a b = (a .0, all-joined xs ys (a .1) b)
+
+  -- and what stands at any index, where past the end stands something that has it
+  pub all-at : (d : A) → P d → (xs : List A) → All P xs → (i : ℕ) → P (getD xs i d)
+  all-at d p [] a i = p
+  all-at d p (x ∷ xs) a zero = a .0
+  all-at d p (x ∷ xs) a (suc i) = all-at d p xs (a .1) i

@@ -1,5 +1,7 @@
-// Division of whole numbers, rounded up, down and to the nearest.
+// Whole numbers: division, rounded up, down and to the nearest, and what lies above 0.
 ghost use mathlib.Core.Path.{_≡_};
+ghost use Prim.Native.Nat.{_-_};
+ghost use Rattle.whole.specs.Parts.{aboveZero};
 ghost use Rattle.whole.specs.Rounding.{roundedUp, roundedDown, roundedNearest};
 
 // a / b, rounded up: one more than the quotient where something is left over. By 0 it is 0.
@@ -33,4 +35,18 @@ pub fn rounded_nearest(a: u64, b: u64) -> u64
     let whole = a / b;
     let rest = a % b;
     if rest >= b - rest { whole + 1 } else { whole }
+}
+
+// How far a lies above b; 0 where it doesn't.
+pub fn excess(a: u64, b: u64) -> u64
+    ensures { λ r. ⌜ r ≡ a - b ⌝ }
+{
+    if b < a { a - b } else { 0 }
+}
+
+// The number itself; 0 where it is negative.
+pub fn above_zero(n: i64) -> u64
+    ensures { λ r. ⌜ r ≡ aboveZero n ⌝ }
+{
+    if 0 < n { n as u64 } else { 0 }
 }

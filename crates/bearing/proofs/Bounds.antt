@@ -1,0 +1,20 @@
+-- How big the figures of a block are that is worked out within bounds.
+use Prim.Native.Nat.{ℕ, _*_, _≤_, _<_}
+use native.Mathlib.Nat.{mul-le-mul}
+use native.Mathlib.Omega.{arith}
+use Rattle.bearing.specs.Within.{Within}
+
+pub record Bounds (R M6 l : ℕ) : Type 0 where
+  pub along : 6 * R * l < 10000000000000
+  pub square : 4 * R * R < 40000000000000000
+  pub base : l * l < 1000000000
+
+pub bounds : {R M6 l : ℕ} → Within R M6 l → Bounds R M6 l
+bounds {R} {M6} {l} w =
+    let r : R ≤ 90000000 = omega (arith, w .vertical) in
+    let long : l ≤ 11500 = w .length .1 in
+    record {
+      along = omega (arith, mul-le-mul r long);
+      square = omega (arith, mul-le-mul r r);
+      base = omega (arith, mul-le-mul long long);
+    }

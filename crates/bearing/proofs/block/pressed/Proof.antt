@@ -1,0 +1,34 @@
+-- `bearing::block::pressed` meets its contract: the block is given or not by the greater of its pressures.
+use Prim.Native.Nat.{_≤_, _<_}
+use native.Mathlib.Omega.{arith}
+use borrow.Author.Needs.{needs}
+use Rattle.bearing.proofs.Reports.{is-given, not-given}
+use Rattle.bearing.proofs.block.pressed.Statement.{statement}
+use Rattle.bearing.proofs.block.pressed.Tie as tie
+
+report-requires : tie.Need-report-requires
+report-requires c κs = c .pre .toe
+
+report-requires-2 : tie.Need-report-requires-2
+report-requires-2 c κs = c .before .pre .heel
+
+greater-requires : tie.Need-greater-requires
+greater-requires c κs = search needs
+
+no-block-requires : tie.Need-no-block-requires
+no-block-requires c κs = search needs
+
+returns : tie.Need-returns
+returns c =
+    let d = c .before .before in
+    let high : 2000000 < d .greater .result = omega arith in
+    rw (c .no-block .ensures) (not-given _ _ _ _ (d .before .before .report .ensures) (d .before .report2 .ensures) (rw (d .greater .ensures) at high))
+
+returns-2 : tie.Need-returns-2
+returns-2 c =
+    let d = c .before in
+    let low : d .greater .result ≤ 2000000 = omega arith in
+    is-given _ _ _ _ (d .before .before .report .ensures) (d .before .report2 .ensures) (rw (d .greater .ensures) at low)
+
+pub pressed-spec : {M : Type 1} → statement M
+pressed-spec = tie.close (tie.spec report-requires report-requires-2 greater-requires no-block-requires returns returns-2)

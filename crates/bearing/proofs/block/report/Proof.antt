@@ -1,0 +1,35 @@
+-- `bearing::block::report` meets its contract: the scaled figure fits, and the rest is the rounding.
+use mathlib.Core.Path.{refl}
+use native.Mathlib.Omega.{arith}
+use borrow.Author.Needs.{needs}
+use mir.Syntax.{w64}
+use mir.ValLaws.{toZ-ofZ}
+use Rattle.rules.specs.Bearing.{reported}
+use Rattle.bearing.proofs.block.report.Statement.{statement}
+use Rattle.bearing.proofs.block.report.Tie as tie
+
+above-zero-requires : tie.Need-above-zero-requires
+above-zero-requires c κs = search needs
+
+mul-rounded-up : tie.Need-mul-rounded-up
+mul-rounded-up c =
+    record { fits = rw (c .above-zero .ensures, toZ-ofZ w64 _ (record { sfits = c .before .struct-told .given .0 .1 })) (c .before .before .pre) }
+
+above-zero-requires-2 : tie.Need-above-zero-requires-2
+above-zero-requires-2 c κs = search needs
+
+rounded-up-requires : tie.Need-rounded-up-requires
+rounded-up-requires c κs = search needs
+
+returns : tie.Need-returns
+unfolding reported
+returns c =
+    let first = c .before .before .before in
+    let over = toZ-ofZ w64 (first .before .before .args .pressure .over) (record { sfits = first .before .struct-told .given .0 .1 }) in
+    let under = toZ-ofZ w64 (first .before .before .args .pressure .under) (record { sfits = c .before .before .struct-told2 .given .1 .0 .1 }) in
+    rw (c .rounded-up .ensures, c .before .above-zero2 .ensures, first .above-zero .ensures, over, under)
+
+pub report-spec : {M : Type 1} → statement M
+report-spec =
+    tie.close
+    (tie.spec above-zero-requires mul-rounded-up above-zero-requires-2 rounded-up-requires returns)

@@ -1,0 +1,21 @@
+-- How big the figures are that a block is worked out from and reported by, in whole numbers.
+use Prim.Native.Nat.{ℕ, _*_, _≤_, _<_, _^_}
+use Rattle.whole.specs.Parts.{aboveZero}
+use Rattle.rules.specs.declared.Block.{Block}
+
+-- R, M6 and l, of an accepted wall in service or factored
+pub record Within (R M6 l : ℕ) : Type 0 where
+  pub vertical : (0 < R) × (R < 90000000)
+  pub length : (0 < l) × (l ≤ 11500)
+  pub on-base : M6 < 6 * R * l
+
+-- and a scale to report pressures at
+pub record Scaled (scale R M6 l : ℕ) : Type 0 where
+  pub within : Within R M6 l
+  pub small : scale ≤ 1000
+  pub square : scale * (4 * R * R) < 2 ^ 64
+
+-- a block's pressures can be multiplied by the scale
+pub record Reportable (scale : ℕ) (b : Block) : Type 0 where
+  pub toe : scale * aboveZero (b .toe .over) < 2 ^ 64
+  pub heel : scale * aboveZero (b .heel .over) < 2 ^ 64

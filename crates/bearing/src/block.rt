@@ -1,0 +1,146 @@
+// Document 01, "The bearing block": the block that R and M6 make on a base of length l. Nothing is divided before a pressure is reported.
+use rules::Block;
+use rules::Fraction;
+use rules::Kind;
+use rules::Pressed;
+ghost use mathlib.Core.Path.{_≡_};
+ghost use Prim.Native.Nat.{_*_, _≤_, _<_, _^_, max};
+ghost use lib.IntN.{pos};
+ghost use lib.Signed.{_≤ℤ_};
+ghost use Rattle.rules.specs.declared.Kind.the-variants.{Full, FromToe, FromHeel};
+ghost use Rattle.whole.specs.Parts.{aboveZero};
+ghost use Rattle.rules.specs.Bearing.{_over_, noBlock, ofKind, blockOf, reported, given, pressedBy};
+ghost use Rattle.bearing.specs.Within.{Within, Reportable};
+
+// What a block may report at most, in N/m2.
+const MOST: u64 = 2000000;
+
+fn no_block() -> Block
+    ensures { λ r. ⌜ r ≡ noBlock ⌝ }
+{
+    let none = Fraction { over: 0, under: 1 };
+    Block {
+        kind: Kind::NoBlock,
+        toe: none,
+        heel: none,
+        contact: none,
+    }
+}
+
+// A fraction of whole numbers.
+fn over(a: u64, b: u64) -> Fraction
+    requires { ⌜ (a < 2 ^ 63) × (b < 2 ^ 63) ⌝ }
+    ensures { λ r. ⌜ r ≡ (pos a over pos b) ⌝ }
+{
+    Fraction {
+        over: a as i64,
+        under: b as i64,
+    }
+}
+
+// Over all of l.
+fn full(r: u64, m: u64, l: u64) -> Block
+    requires { ⌜ Within r m l × (2 * r * l ≤ m) × (m ≤ 4 * r * l) ⌝ }
+    ensures { λ b. ⌜ b ≡ ofKind Full (pos r) (pos m) (pos l) ⌝ }
+{
+    let toe = over(4 * r * l - m, l * l);
+    let heel = over(m - 2 * r * l, l * l);
+    Block {
+        kind: Kind::Full,
+        toe: toe,
+        heel: heel,
+        contact: over(l, 1),
+    }
+}
+
+// A triangle from the toe.
+fn from_toe(r: u64, m: u64, l: u64) -> Block
+    requires { ⌜ Within r m l ⌝ }
+    ensures { λ b. ⌜ b ≡ ofKind FromToe (pos r) (pos m) (pos l) ⌝ }
+{
+    Block {
+        kind: Kind::FromToe,
+        toe: over(4 * r * r, m),
+        heel: over(0, 1),
+        contact: over(m, 2 * r),
+    }
+}
+
+// A triangle from the heel.
+fn from_heel(r: u64, m: u64, l: u64) -> Block
+    requires { ⌜ Within r m l ⌝ }
+    ensures { λ b. ⌜ b ≡ ofKind FromHeel (pos r) (pos m) (pos l) ⌝ }
+{
+    let n = 6 * r * l - m;
+    Block {
+        kind: Kind::FromHeel,
+        toe: over(0, 1),
+        heel: over(4 * r * r, n),
+        contact: over(n, 2 * r),
+    }
+}
+
+// The block of the case that M6 falls in, compared multiplied out.
+fn block_above_zero(r: u64, m: u64, l: u64) -> Block
+    requires { ⌜ (0 < m → Within r m l) ⌝ }
+    ensures { λ b. ⌜ b ≡ blockOf (pos r) (pos m) (pos l) ⌝ }
+{
+    if m == 0 {
+        return no_block();
+    }
+    let low = 2 * r * l;
+    let high = 4 * r * l;
+    if m < low {
+        return from_toe(r, m, l);
+    }
+    if m <= high {
+        return full(r, m, l);
+    }
+    from_heel(r, m, l)
+}
+
+// The block that R and M6 make, signed as they are; where M6 is not above 0, there is none.
+pub fn block_of(vertical: i64, moment: i64, l: u64) -> Block
+    requires { ⌜ (pos 0 ≤ℤ vertical) × (0 < aboveZero moment → Within (aboveZero vertical) (aboveZero moment) l) ⌝ }
+    ensures { λ b. ⌜ b ≡ blockOf vertical moment (pos l) ⌝ }
+{
+    block_above_zero(whole::above_zero(vertical), whole::above_zero(moment), l)
+}
+
+// A pressure in N/m2, rounded up.
+fn report(scale: u64, pressure: Fraction) -> u64
+    requires { ⌜ scale * aboveZero (pressure .over) < 2 ^ 64 ⌝ }
+    ensures { λ n. ⌜ n ≡ reported scale pressure ⌝ }
+{
+    whole::rounded_up(
+        scale * whole::above_zero(pressure.over),
+        whole::above_zero(pressure.under),
+    )
+}
+
+fn greater(a: u64, b: u64) -> u64
+    ensures { λ n. ⌜ n ≡ max a b ⌝ }
+{
+    if a < b { b } else { a }
+}
+
+// A block, given or not, and the pressures reported of it.
+pub fn pressed(scale: u64, block: Block) -> Pressed
+    requires { ⌜ Reportable scale block ⌝ }
+    ensures { λ p. ⌜ p ≡ pressedBy scale (given scale block) ⌝ }
+{
+    let toe = report(scale, block.toe);
+    let heel = report(scale, block.heel);
+    if MOST < greater(toe, heel) {
+        return Pressed {
+            block: no_block(),
+            toe: 0,
+            heel: 0,
+        };
+    }
+    Pressed {
+        block: block,
+        toe: toe,
+        heel: heel,
+    }
+}

@@ -1,0 +1,5 @@
+pub mod Components
+pub mod Factors
+pub mod Holding
+pub mod Indexed
+pub mod Summed

@@ -1,0 +1,36 @@
+-- `forces::sliding::friction_under` meets its contract. What lasts is a signed number, which is read back from its bits.
+use mathlib.Core.Path.{_≡_, ap, _∙_}
+use native.Mathlib.Omega.{arith}
+use borrow.Author.Needs.{needs}
+use mir.Facts.{toZ-ofZ}
+use Rattle.whole.specs.Parts.{aboveZero}
+use Rattle.rules.specs.Forces.{frictionUnder}
+use Rattle.forces.proofs.Factors.{two-fit}
+use Rattle.whole.proofs.Integer.{above-most}
+use Rattle.forces.proofs.sliding.friction_under.Statement.{statement}
+use Rattle.forces.proofs.sliding.friction_under.Tie as tie
+
+-- what is multiplied is the part above 0 of what lasts
+lasting-is : (c : tie.After-above-zero) → c .above-zero .result ≡ aboveZero (c .before .before .args .lasting)
+lasting-is c = c .above-zero .ensures ∙ ap aboveZero (toZ-ofZ (c .before .before .fits .lasting))
+
+field-requires : tie.Need-field-requires
+field-requires c κs = search needs
+
+above-zero-requires : tie.Need-above-zero-requires
+above-zero-requires c κs = search needs
+
+mul-rounded-down : tie.Need-mul-rounded-down
+mul-rounded-down c = two-fit (omega (arith, lasting-is c, above-most _ (c .before .before .pre .1)))
+
+rounded-down-requires : tie.Need-rounded-down-requires
+rounded-down-requires c κs = search needs
+
+returns : tie.Need-returns
+unfolding frictionUnder
+returns c = cc (lasting-is (c .before))
+
+pub friction-under-spec : {M : Type 1} → statement M
+friction-under-spec =
+    tie.close
+    (tie.spec field-requires above-zero-requires mul-rounded-down rounded-down-requires returns)

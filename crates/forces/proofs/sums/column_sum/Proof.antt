@@ -1,0 +1,146 @@
+-- `forces::sums::column_sum` meets its contract. The invariant: the sum is that of the rows passed, in bits.
+use mathlib.Core.Path.{_≡_, refl, ap, _∙_}
+use mathlib.Core.List.{List, []}
+use Prim.Native.Nat.{ℕ, _*_, _-_, _≤_}
+use native.Mathlib.Omega.{arith}
+use native.Mathlib.Numerals.{add-one}
+use lib.IntN.{ℤ, pos, natAbs, _+ℤ_, _*ℤ_}
+use lib.ListN.{getD}
+use mir.Syntax.{w64}
+use mir.Val.{SFits, ofZ, toZ}
+use Rattle.whole.specs.Sum.{sumTo}
+use Rattle.whole.proofs.Integer.{abs-add, abs-weighted, fits-abs, back}
+use Rattle.forces.specs.Sorts.{components, weighted, weightedSum, Small, Light}
+use Rattle.forces.proofs.Summed.{sum-within}
+use Rattle.forces.proofs.sums.column_sum.Statement.{statement}
+use Rattle.forces.proofs.sums.column_sum.Tie as tie
+
+-- of a table that is small and weights that are light the first i rows are summed
+record Passed (table : List (List ℤ)) (sorts : List ℕ) (weights : List ℤ) (column sum i : ℕ) : Type 0 where
+  within : i ≤ components
+  small : Small table sorts
+  light : Light weights
+  same : sum ≡ ofZ w64 (sumTo (weighted table sorts weights column) i)
+
+-- what is read back of a number's bits
+abbrev read : ℤ → ℤ
+read z = toZ w64 (ofZ w64 z)
+
+-- the next row's weight times its cell fits, and so does that on the sum; each is read back as it is
+module _ {table : List (List ℤ)} {sorts : List ℕ} {weights : List ℤ} {column sum i : ℕ} (passed : Passed table sorts weights column sum i) where
+  abbrev weight : ℤ
+  weight = getD weights (getD sorts i 0) (pos 0)
+
+  abbrev cell : ℤ
+  cell = getD (getD table i []) column (pos 0)
+
+  abbrev summed : ℤ
+  summed = sumTo (weighted table sorts weights column) i
+
+  light-weight : natAbs weight ≤ 16
+  light-weight = passed .light .at-most (getD sorts i 0)
+
+  small-cell : natAbs cell ≤ 100000000000
+  small-cell = passed .small .cells i column
+
+  small-product : natAbs (weight *ℤ cell) ≤ 1600000000000
+  small-product = abs-weighted weight cell light-weight small-cell
+
+  small-sum : natAbs summed ≤ 26 * 1600000000000
+  small-sum = omega (arith, sum-within (passed .small) (passed .light) column i)
+
+  product : read weight *ℤ read cell ≡ weight *ℤ cell
+  product = rw (back weight (omega (arith, light-weight)), back cell (omega (arith, small-cell)))
+
+  product-fits : SFits w64 (read weight *ℤ read cell)
+  product-fits = rw product (fits-abs (weight *ℤ cell) (omega (arith, small-product)))
+
+  sum-back : toZ w64 sum ≡ summed
+  sum-back = rw (passed .same) (back summed (omega (arith, small-sum)))
+
+  next : toZ w64 sum +ℤ read (read weight *ℤ read cell) ≡ summed +ℤ weight *ℤ cell
+  next = rw (sum-back, product, back (weight *ℤ cell) (omega (arith, small-product)))
+
+  next-fits : SFits w64 (toZ w64 sum +ℤ read (read weight *ℤ read cell))
+  next-fits = rw next (fits-abs (summed +ℤ weight *ℤ cell) (omega (arith, abs-add summed (weight *ℤ cell), small-sum, small-product)))
+
+  all-summed : components ≤ i → toZ w64 sum ≡ weightedSum table sorts weights column
+  unfolding weightedSum
+  all-summed h = let all : i ≡ components = omega arith in sum-back ∙ rw all
+
+abbrev Inv-loop : tie.InvT-loop
+Inv-loop column table sorts weights sum₀ i₀ sum i = Passed table sorts weights column sum i
+
+abbrev μ-loop : tie.MeasureT-loop
+μ-loop column table sorts weights sum₀ i₀ sum i = components - i
+
+loop-holds : tie.Need-loop-holds Inv-loop μ-loop
+unfolding sumTo
+loop-holds c = record { within = omega arith; small = c .pre .1; light = c .pre .2; same = refl }
+
+mul-sum : tie.Need-mul-sum Inv-loop μ-loop
+mul-sum c = omega arith
+
+array-read-sum : tie.Need-array-read-sum Inv-loop μ-loop
+array-read-sum c = omega arith
+
+mul-sum-2 : tie.Need-mul-sum-2 Inv-loop μ-loop
+mul-sum-2 c = omega (arith, c .before .loop .inv .small .sorted (c .before .loop .i))
+
+array-copy-out-sum : tie.Need-array-copy-out-sum Inv-loop μ-loop
+array-copy-out-sum c = omega (arith, c .before .loop .inv .small .sorted (c .before .loop .i))
+
+mul-sum-3 : tie.Need-mul-sum-3 Inv-loop μ-loop
+mul-sum-3 c = omega arith
+
+mul-sum-4 : tie.Need-mul-sum-4 Inv-loop μ-loop
+mul-sum-4 c = omega arith
+
+index-1-sum : tie.Need-index-1-sum Inv-loop μ-loop
+index-1-sum c = omega arith
+
+index-2-sum : tie.Need-index-2-sum Inv-loop μ-loop
+index-2-sum c = omega arith
+
+mul-sum-5 : tie.Need-mul-sum-5 Inv-loop μ-loop
+mul-sum-5 c = product-fits (c .before .before .before .loop .inv)
+
+add-sum : tie.Need-add-sum Inv-loop μ-loop
+add-sum c = next-fits (c .before .before .before .loop .inv)
+
+add-i : tie.Need-add-i Inv-loop μ-loop
+add-i c = omega arith
+
+loop-less : tie.Need-loop-less Inv-loop μ-loop
+loop-less c = omega arith
+
+loop-again : tie.Need-loop-again Inv-loop μ-loop
+unfolding sumTo
+loop-again c =
+    let passed = c .before .before .before .loop .inv in
+    record { within = omega arith; small = passed .small; light = passed .light; same = rw add-one (ap (ofZ w64) (next passed)) }
+
+returns : tie.Need-returns Inv-loop μ-loop
+returns c = all-summed (c .before .loop .inv) (omega arith)
+
+pub column-sum-spec : {M : Type 1} → statement M
+column-sum-spec =
+    tie.close
+    (tie.spec
+    Inv-loop
+    μ-loop
+    loop-holds
+    mul-sum
+    array-read-sum
+    mul-sum-2
+    array-copy-out-sum
+    mul-sum-3
+    mul-sum-4
+    index-1-sum
+    index-2-sum
+    mul-sum-5
+    add-sum
+    add-i
+    loop-less
+    loop-again
+    returns)

@@ -1,0 +1,72 @@
+-- `forces::sums::totals_by` meets its contract.
+use mathlib.Core.Path.{_≡_, _∙_}
+use Prim.Native.Nat.{_<_, _^_}
+use borrow.Author.Needs.{needs}
+use lib.IntN.{ℤ}
+use lib.Signed.{mag}
+use mir.Syntax.{w64}
+use mir.Val.{ofZ, toZ}
+use mir.ValLaws.{toZ-ofZ}
+use Rattle.forces.specs.Sorts.{totalsBy}
+use Rattle.forces.proofs.sums.totals_by.Statement.{statement}
+use Rattle.forces.proofs.sums.totals_by.Tie as tie
+
+-- a number that fits is read back from its bits
+read-back : {r z : ℤ} → r ≡ z → mag r < 2 ^ 63 → toZ w64 (ofZ w64 r) ≡ z
+read-back {r} e h = toZ-ofZ w64 r (record { sfits = h }) ∙ e
+
+array-copy-out-column-sum : tie.Need-array-copy-out-column-sum
+array-copy-out-column-sum c = search needs
+
+column-sum-requires : tie.Need-column-sum-requires
+column-sum-requires c κs = search (needs, c .before .pre .1 .each)
+
+array-copy-out-column-sum-2 : tie.Need-array-copy-out-column-sum-2
+array-copy-out-column-sum-2 c = search needs
+
+column-sum-requires-2 : tie.Need-column-sum-requires-2
+column-sum-requires-2 c κs = search (needs, c .before .before .before .pre .1 .each)
+
+array-copy-out-column-sum-3 : tie.Need-array-copy-out-column-sum-3
+array-copy-out-column-sum-3 c = search needs
+
+column-sum-requires-3 : tie.Need-column-sum-requires-3
+column-sum-requires-3 c κs = search (needs, c .before .before .before .before .before .pre .1 .each)
+
+array-copy-out-column-sum-4 : tie.Need-array-copy-out-column-sum-4
+array-copy-out-column-sum-4 c = search needs
+
+column-sum-requires-4 : tie.Need-column-sum-requires-4
+column-sum-requires-4 c κs = search (needs, c .before .before .before .before .before .before .before .pre .1 .each)
+
+array-copy-out-column-sum-5 : tie.Need-array-copy-out-column-sum-5
+array-copy-out-column-sum-5 c = search needs
+
+column-sum-requires-5 : tie.Need-column-sum-requires-5
+column-sum-requires-5 c κs = search (needs, c .before .before .before .before .before .before .before .before .before .pre .1 .each)
+
+returns : tie.Need-returns
+unfolding totalsBy
+returns c =
+    let fourth = c .before .before in
+    let third = fourth .before .before in
+    let second = third .before .before in
+    let first = second .before .before in
+    rw
+    (read-back (first .column-sum .ensures) (first .column-sum .ok), read-back (second .column-sum2 .ensures) (second .column-sum2 .ok), read-back (third .column-sum3 .ensures) (third .column-sum3 .ok), read-back (fourth .column-sum4 .ensures) (fourth .column-sum4 .ok), read-back (c .column-sum5 .ensures) (c .column-sum5 .ok))
+
+pub totals-by-spec : {M : Type 1} → statement M
+totals-by-spec =
+    tie.close
+    (tie.spec
+    array-copy-out-column-sum
+    column-sum-requires
+    array-copy-out-column-sum-2
+    column-sum-requires-2
+    array-copy-out-column-sum-3
+    column-sum-requires-3
+    array-copy-out-column-sum-4
+    column-sum-requires-4
+    array-copy-out-column-sum-5
+    column-sum-requires-5
+    returns)

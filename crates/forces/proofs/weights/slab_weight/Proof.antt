@@ -1,0 +1,23 @@
+-- `forces::weights::slab_weight` meets its contract. Its bounds are multiplied.
+use native.Mathlib.Nat.{mul-le-mul}
+use native.Mathlib.Omega.{arith}
+use borrow.Author.Needs.{needs}
+use Rattle.rules.proofs.Sizes.{product}
+use Rattle.forces.proofs.weights.slab_weight.Statement.{statement}
+use Rattle.forces.proofs.weights.slab_weight.Tie as tie
+
+mul-rounded-nearest : tie.Need-mul-rounded-nearest
+mul-rounded-nearest c = omega (arith, mul-le-mul (c .pre .0) (c .pre .1))
+
+mul-rounded-nearest-2 : tie.Need-mul-rounded-nearest-2
+mul-rounded-nearest-2 c = omega (arith, product (c .pre .0) (c .pre .1) (c .pre .2))
+
+rounded-nearest-requires : tie.Need-rounded-nearest-requires
+rounded-nearest-requires c κs = search needs
+
+returns : tie.Need-returns
+returns c = search needs
+
+pub slab-weight-spec : {M : Type 1} → statement M
+slab-weight-spec =
+    tie.close (tie.spec mul-rounded-nearest mul-rounded-nearest-2 rounded-nearest-requires returns)

@@ -1,0 +1,3 @@
+pub mod Components
+pub mod Faces
+pub mod Sorts

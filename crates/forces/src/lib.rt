@@ -1,0 +1,98 @@
+// Document 01, "Forces": the component table of a wall under its loads, the totals, and what holds the wall against sliding.
+mod pushes;
+mod rows;
+mod sliding;
+mod sums;
+mod table;
+mod weights;
+
+use record::ACTIVE_COEFFICIENT;
+use record::Loads;
+use record::MOST_LOADS_ON_WALL;
+use record::REST_COEFFICIENT;
+use record::Wall;
+use rules::Answer;
+use rules::Forces;
+use rules::Sliding;
+use rules::Totals;
+use sums::FACTORED;
+use sums::RESTS;
+use sums::SERVICE;
+use sums::VERTICAL;
+ghost use mathlib.Core.Path.{_≡_};
+ghost use lib.Dec.{T};
+ghost use Rattle.rules.specs.Answered.{fits};
+ghost use Rattle.rules.specs.Forces.{noForces, workedForces, forcesOf};
+ghost use Rattle.rules.proofs.Examined.{firstUnfit};
+
+// The number of the first load that doesn't fit the wall, from 1; 0 where there is none.
+fn first_unfit(wall: Wall, loads: Loads) -> u32
+    ensures { λ r. ⌜ r ≡ firstUnfit wall 1 loads ⌝ }
+{
+    for i in 0..MOST_LOADS_ON_WALL {
+        if !record::load_fits(wall, loads[i]) {
+            return i as u32 + 1;
+        }
+    }
+    0
+}
+
+// A refusal has no figures.
+fn no_forces(refusal: Answer) -> Forces
+    ensures { λ r. ⌜ r ≡ noForces refusal ⌝ }
+{
+    let none = Totals {
+        vertical: 0,
+        horizontal: 0,
+        restoring: 0,
+        overturning: 0,
+        moment: 0,
+    };
+    let free = Sliding {
+        passive: 0,
+        friction: 0,
+        slides: false,
+        propping: 0,
+    };
+    Forces {
+        answer: refusal,
+        service: none,
+        factored: none,
+        sliding: free,
+    }
+}
+
+// The forces on a wall and loads that fit.
+fn worked(wall: Wall, loads: Loads) -> Forces
+    requires { ⌜ T (fits wall loads) ⌝ }
+    ensures { λ r. ⌜ r ≡ workedForces wall loads ⌝ }
+{
+    let sorts = sums::sorts_of(loads);
+    let active = table::filled(wall, loads, record::field(wall, ACTIVE_COEFFICIENT));
+    let at_rest = table::filled(wall, loads, record::field(wall, REST_COEFFICIENT));
+    let service = sums::totals_by(active, sorts, SERVICE);
+    let factored = sums::totals_by(at_rest, sorts, FACTORED);
+    let resting = sums::column_sum(active, sorts, RESTS, VERTICAL);
+    let sliding = sliding::held(wall, service.vertical - resting, service.horizontal);
+    Forces {
+        answer: Answer::Worked,
+        service: service,
+        factored: factored,
+        sliding: sliding,
+    }
+}
+
+// The totals of a wall under its loads, in service and factored, and what holds it; or the refusal that a file of this one wall and these loads
+// would get. An absent load is a row of zeros.
+pub fn totals(wall: Wall, loads: Loads) -> Forces
+    ensures { λ r. ⌜ r ≡ forcesOf wall loads ⌝ }
+{
+    if !record::wall_fits(wall) {
+        return no_forces(Answer::WallOutOfRange(1));
+    }
+    let unfit = first_unfit(wall, loads);
+    if 0 < unfit {
+        return no_forces(Answer::LoadOutOfRange(unfit));
+    }
+    worked(wall, loads)
+}

@@ -1,0 +1,117 @@
+// Document 01, "Forces": the totals, each a sum of one column of the table in which a row is weighted by its sort.
+use crate::table::COMPONENTS;
+use crate::table::FIRST_DEAD;
+use crate::table::FIRST_LIVE;
+use crate::table::Table;
+use record::DIRECTION;
+use record::Load;
+use record::Loads;
+use rules::Totals;
+ghost use mathlib.Core.Path.{_≡_};
+ghost use Prim.Native.Nat.{_<_};
+ghost use Rattle.forces.specs.Sorts.{components, byWay, sortsOf, sortAt, weightedSum, Small, Light, AllLight, totalsBy};
+
+// A sort's place among the weights.
+const DEAD_WEIGHT: usize = 0;
+
+const LIVE_WEIGHT: usize = 1;
+
+const DEAD_PUSH: usize = 2;
+
+const LIVE_PUSH: usize = 3;
+
+pub type Sorts = [usize; COMPONENTS];
+
+pub type Weights = [i64; 4];
+
+// What counts, what restores, what overturns, and what M6 takes.
+pub type TotalWeights = [Weights; 4];
+
+pub const SERVICE: TotalWeights = [[1, 1, 1, 1], [1, 0, 0, 0], [0, 0, 1, 1], [1, 1, -1, -1]];
+
+pub const FACTORED: TotalWeights = [
+    [14, 16, 14, 16],
+    [14, 0, 0, 0],
+    [0, 0, 14, 16],
+    [14, 16, -14, -16],
+];
+
+// Surcharge and live loads down, which rest on the wall.
+pub const RESTS: Weights = [0, 1, 0, 0];
+
+// The table's columns.
+pub const VERTICAL: usize = 0;
+
+const HORIZONTAL: usize = 1;
+
+const MOMENT: usize = 2;
+
+// The sorts of the weights and pushes: stem, base and the two fills, surcharge; then its push, and those of earth and water.
+const SORTS: [usize; FIRST_DEAD] = [
+    DEAD_WEIGHT,
+    DEAD_WEIGHT,
+    DEAD_WEIGHT,
+    DEAD_WEIGHT,
+    LIVE_WEIGHT,
+    LIVE_PUSH,
+    DEAD_PUSH,
+    DEAD_PUSH,
+    DEAD_PUSH,
+    DEAD_PUSH,
+];
+
+fn sort_by_way(load: Load, down: usize, across: usize) -> usize
+    ensures { λ r. ⌜ r ≡ byWay down across load ⌝ }
+{
+    if load[DIRECTION] == 0 { down } else { across }
+}
+
+// The sort of the component at an index.
+fn sort_at(loads: Loads, i: usize) -> usize
+    requires { ⌜ i < components ⌝ }
+    ensures { λ r. ⌜ r ≡ sortAt loads i ⌝ }
+{
+    if i < FIRST_DEAD {
+        return SORTS[i];
+    }
+    if i < FIRST_LIVE {
+        return sort_by_way(loads[i - FIRST_DEAD], DEAD_WEIGHT, DEAD_PUSH);
+    }
+    sort_by_way(loads[i - FIRST_LIVE], LIVE_WEIGHT, LIVE_PUSH)
+}
+
+pub fn sorts_of(loads: Loads) -> Sorts
+    ensures { λ r. ⌜ r ≡ sortsOf loads ⌝ }
+{
+    let mut sorts = [DEAD_WEIGHT; COMPONENTS];
+    for i in 0..COMPONENTS {
+        sorts[i] = sort_at(loads, i);
+    }
+    sorts
+}
+
+// The weighted sum of a column.
+pub fn column_sum(table: Table, sorts: Sorts, weights: Weights, column: usize) -> i64
+    requires { ⌜ (column < 3) × Small table sorts × Light weights ⌝ }
+    ensures { λ r. ⌜ r ≡ weightedSum table sorts weights column ⌝ }
+{
+    let mut sum = 0i64;
+    for i in 0..COMPONENTS {
+        sum = sum + weights[sorts[i]] * table[i][column];
+    }
+    sum
+}
+
+// The five totals.
+pub fn totals_by(table: Table, sorts: Sorts, weights: TotalWeights) -> Totals
+    requires { ⌜ Small table sorts × AllLight weights ⌝ }
+    ensures { λ r. ⌜ r ≡ totalsBy table sorts weights ⌝ }
+{
+    Totals {
+        vertical: column_sum(table, sorts, weights[0], VERTICAL),
+        horizontal: column_sum(table, sorts, weights[0], HORIZONTAL),
+        restoring: column_sum(table, sorts, weights[1], MOMENT),
+        overturning: column_sum(table, sorts, weights[2], MOMENT),
+        moment: column_sum(table, sorts, weights[3], MOMENT),
+    }
+}
