@@ -1,6 +1,9 @@
 -- How big the figures are that a block is worked out from and reported by, in whole numbers.
 use Prim.Native.Nat.{ℕ, _*_, _≤_, _<_, _^_}
+use lib.IntN.{pos}
+use lib.Signed.{_≤ℤ_}
 use Rattle.whole.specs.Parts.{aboveZero}
+use Rattle.rules.specs.declared.Totals.{Totals}
 use Rattle.rules.specs.declared.Block.{Block}
 
 -- R, M6 and l, of an accepted wall in service or factored
@@ -14,6 +17,11 @@ pub record Scaled (scale R M6 l : ℕ) : Type 0 where
   pub within : Within R M6 l
   pub small : scale ≤ 1000
   pub square : scale * (4 * R * R) < 2 ^ 64
+
+-- totals that a block can be worked from and reported by; where M6 isn't above 0 there is none to work
+pub record Workable (scale l : ℕ) (t : Totals) : Type 0 where
+  pub least : pos 0 ≤ℤ t .vertical
+  pub scaled : 0 < aboveZero (t .moment) → Scaled scale (aboveZero (t .vertical)) (aboveZero (t .moment)) l
 
 -- a block's pressures can be multiplied by the scale
 pub record Reportable (scale : ℕ) (b : Block) : Type 0 where

@@ -3,6 +3,7 @@ use rules::Block;
 use rules::Fraction;
 use rules::Kind;
 use rules::Pressed;
+use rules::Totals;
 ghost use mathlib.Core.Path.{_≡_};
 ghost use Prim.Native.Nat.{_*_, _≤_, _<_, _^_, max};
 ghost use lib.IntN.{pos};
@@ -10,7 +11,7 @@ ghost use lib.Signed.{_≤ℤ_};
 ghost use Rattle.rules.specs.declared.Kind.the-variants.{Full, FromToe, FromHeel};
 ghost use Rattle.whole.specs.Parts.{aboveZero};
 ghost use Rattle.rules.specs.Bearing.{_over_, noBlock, ofKind, blockOf, reported, given, pressedBy};
-ghost use Rattle.bearing.specs.Within.{Within, Reportable};
+ghost use Rattle.bearing.specs.Within.{Within, Workable, Reportable};
 
 // What a block may report at most, in N/m2.
 const MOST: u64 = 2000000;
@@ -100,11 +101,15 @@ fn block_above_zero(r: u64, m: u64, l: u64) -> Block
 }
 
 // The block that R and M6 make, signed as they are; where M6 is not above 0, there is none.
-pub fn block_of(vertical: i64, moment: i64, l: u64) -> Block
-    requires { ⌜ (pos 0 ≤ℤ vertical) × (0 < aboveZero moment → Within (aboveZero vertical) (aboveZero moment) l) ⌝ }
-    ensures { λ b. ⌜ b ≡ blockOf vertical moment (pos l) ⌝ }
+fn block_of(totals: Totals, l: u64) -> Block
+    requires { ⌜ (pos 0 ≤ℤ totals .vertical) × (0 < aboveZero (totals .moment) → Within (aboveZero (totals .vertical)) (aboveZero (totals .moment)) l) ⌝ }
+    ensures { λ b. ⌜ b ≡ blockOf (totals .vertical) (totals .moment) (pos l) ⌝ }
 {
-    block_above_zero(whole::above_zero(vertical), whole::above_zero(moment), l)
+    block_above_zero(
+        whole::above_zero(totals.vertical),
+        whole::above_zero(totals.moment),
+        l,
+    )
 }
 
 // A pressure in N/m2, rounded up.
@@ -125,7 +130,7 @@ fn greater(a: u64, b: u64) -> u64
 }
 
 // A block, given or not, and the pressures reported of it.
-pub fn pressed(scale: u64, block: Block) -> Pressed
+fn pressed(scale: u64, block: Block) -> Pressed
     requires { ⌜ Reportable scale block ⌝ }
     ensures { λ p. ⌜ p ≡ pressedBy scale (given scale block) ⌝ }
 {
@@ -143,4 +148,12 @@ pub fn pressed(scale: u64, block: Block) -> Pressed
         toe: toe,
         heel: heel,
     }
+}
+
+// What bears some totals: their block, and its pressures at a scale.
+pub fn pressed_by(scale: u64, totals: Totals, l: u64) -> Pressed
+    requires { ⌜ Workable scale l totals ⌝ }
+    ensures { λ p. ⌜ p ≡ pressedBy scale (given scale (blockOf (totals .vertical) (totals .moment) (pos l))) ⌝ }
+{
+    pressed(scale, block_of(totals, l))
 }

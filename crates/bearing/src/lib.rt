@@ -1,5 +1,6 @@
 // Document 01, "The bearing block": the blocks that bear a wall under its loads, in service and factored.
 mod block;
+
 use record::Loads;
 use record::Wall;
 use rules::Borne;
@@ -17,11 +18,9 @@ pub fn blocks(wall: Wall, loads: Loads) -> Borne
 {
     let forces = forces::totals(wall, loads);
     let length = record::base_length(wall);
-    let service = block::block_of(forces.service.vertical, forces.service.moment, length);
-    let factored = block::block_of(forces.factored.vertical, forces.factored.moment, length);
     Borne {
         forces: forces,
-        service: block::pressed(SERVICE_SCALE, service),
-        factored: block::pressed(FACTORED_SCALE, factored),
+        service: block::pressed_by(SERVICE_SCALE, forces.service, length),
+        factored: block::pressed_by(FACTORED_SCALE, forces.factored, length),
     }
 }

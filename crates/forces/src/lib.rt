@@ -8,7 +8,6 @@ mod weights;
 
 use record::ACTIVE_COEFFICIENT;
 use record::Loads;
-use record::MOST_LOADS_ON_WALL;
 use record::REST_COEFFICIENT;
 use record::Wall;
 use rules::Answer;
@@ -23,19 +22,6 @@ ghost use mathlib.Core.Path.{_≡_};
 ghost use lib.Dec.{T};
 ghost use Rattle.rules.specs.Answered.{fits};
 ghost use Rattle.rules.specs.Forces.{noForces, workedForces, forcesOf};
-ghost use Rattle.rules.proofs.Examined.{firstUnfit};
-
-// The number of the first load that doesn't fit the wall, from 1; 0 where there is none.
-fn first_unfit(wall: Wall, loads: Loads) -> u32
-    ensures { λ r. ⌜ r ≡ firstUnfit wall 1 loads ⌝ }
-{
-    for i in 0..MOST_LOADS_ON_WALL {
-        if !record::load_fits(wall, loads[i]) {
-            return i as u32 + 1;
-        }
-    }
-    0
-}
 
 // A refusal has no figures.
 fn no_forces(refusal: Answer) -> Forces
@@ -90,7 +76,7 @@ pub fn totals(wall: Wall, loads: Loads) -> Forces
     if !record::wall_fits(wall) {
         return no_forces(Answer::WallOutOfRange(1));
     }
-    let unfit = first_unfit(wall, loads);
+    let unfit = record::first_unfit(wall, loads);
     if 0 < unfit {
         return no_forces(Answer::LoadOutOfRange(unfit));
     }

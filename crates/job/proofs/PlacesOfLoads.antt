@@ -5,14 +5,15 @@ use mathlib.Core.Bool.{Bool, true, false, cond}
 use mathlib.Core.List.{List, [], _∷_, _++_, map, append-nil}
 use Prim.Native.Nat.{ℕ, zero, suc, _+_, _-_, _≤_, _<_}
 use native.Mathlib.Omega.{arith}
-use lib.Dec.{T, eqb, leb·zero}
+use lib.Dec.{T, eqb}
 use lib.ListN.{length, getD, set, replicate, length-set}
 use lib.Seq.{ext-getD, getD-set-same, getD-set-other}
 use borrow.Author.Tests.{eqb-true, eqb-false, eq-eqb, ne-eqb}
-use Rattle.rules.specs.JobFile.{File, Wall, Load, Entry, wallCount, mostWalls, mostLoadsOnWall, wallAt, entryAt, entries, wallOf, loadOf, loadsOn, numbersOn, reach, loadFits}
+use Rattle.rules.specs.JobFile.{File, Load, Entry, wallCount, mostWalls, mostLoadsOnWall, wallAt, entryAt, entries, wallOf, loadOf, loadsOn, numbersOn, loadFits}
 use Rattle.rules.specs.Answered.{accepted}
 use Rattle.rules.proofs.AcceptedFile.{records-length, record-at, wall-count, loads-fit, few-loads}
 use Rattle.rules.proofs.LoadsOfWalls.{loads-are}
+use Rattle.rules.proofs.Examined.{absent-fits}
 use Rattle.job.specs.Places.{padded, noLoad, placesOn, placeTable, withPlace, loadNumbered, loadsAt}
 
 -- ---- filled up to a number
@@ -142,11 +143,6 @@ loads-of-wall file i h = rw (row-at (entries file) i h, map-padded, loads-are, n
 
 -- ---- what is read of an accepted file
 
--- an absent load is within its range against any wall
-absent-fits : (wall : Wall) → T (loadFits wall noLoad)
-unfolding loadFits
-absent-fits wall = rw (leb·zero (reach wall noLoad)) tt
-
 -- what each of a list has, and what stands for nothing has too, each of the list filled up has
 padded-has : {A : Type 0} (p : A → Bool) (none d : A) (n : ℕ) (xs : List A) → T (p none) → ((k : ℕ) → k < length xs → T (p (getD xs k d)))
     → (k : ℕ) → T (p (getD (padded none n xs) k none))
@@ -168,4 +164,4 @@ module _ (file : File) (t : T (accepted file)) (i : ℕ) (h : i < wallCount file
 
   -- every row that is read fits the wall
   pub rows-fit : (k : ℕ) → T (loadFits (wallAt file i) (getD (loadsAt file (getD (placeTable (entries file)) i [])) k noLoad))
-  rows-fit k = rw its (padded-has (loadFits (wallAt file i)) noLoad [] mostLoadsOnWall (loadsOn (suc i) (entries file)) (absent-fits (wallAt file i)) (loads-fit file t i h) k)
+  rows-fit k = rw its (padded-has (loadFits (wallAt file i)) noLoad [] mostLoadsOnWall (loadsOn (suc i) (entries file)) (absent-fits (wallAt file i) noLoad refl refl refl refl) (loads-fit file t i h) k)

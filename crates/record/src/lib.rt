@@ -4,7 +4,7 @@ ghost use mathlib.Core.Path.{_≡_};
 ghost use Prim.Native.Nat.{_<_, _^_};
 ghost use lib.ListN.{getD};
 ghost use Rattle.rules.specs.declared.Range.the-variants.{ABar};
-ghost use Rattle.rules.specs.JobFile.{baseLength, wallHeight, wallFields, ranges, bars, among, within, firstBadField, wallFits, reach, loadFits};
+ghost use Rattle.rules.specs.JobFile.{baseLength, wallHeight, wallFields, ranges, bars, among, within, firstBadField, wallFits, reach, loadFits, firstUnfit};
 
 // A wall is a number for each of its fields, in file order.
 pub const FIELDS: usize = 31;
@@ -206,4 +206,16 @@ pub fn load_fits(wall: Wall, load: Load) -> bool
         return false;
     }
     load[DEAD] <= GREATEST_LOAD && load[LIVE] <= GREATEST_LOAD
+}
+
+// The number of the first load that doesn't fit the wall, from 1; 0 where there is none.
+pub fn first_unfit(wall: Wall, loads: Loads) -> u32
+    ensures { λ r. ⌜ r ≡ firstUnfit wall 1 loads ⌝ }
+{
+    for i in 0..MOST_LOADS_ON_WALL {
+        if !load_fits(wall, loads[i]) {
+            return i as u32 + 1;
+        }
+    }
+    0
 }

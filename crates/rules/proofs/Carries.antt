@@ -19,8 +19,8 @@ use Rattle.rules.specs.declared.Block.{Block}
 use Rattle.rules.specs.declared.Totals.{Totals}
 use Rattle.rules.specs.JobFile.{Wall, Load, baseLength}
 use Rattle.rules.specs.Answered.{fits}
-use Rattle.rules.specs.Forces.{service, factored}
-use Rattle.rules.specs.Bearing.{_over_, overOne, plus, minus, times, Same, Proper, Triangle, HasKind, StraightLine, carried, sixMomentsAs, sixMoments, SameBlock, isNone, isFull, isFromToe, isFromHeel, kindOf, noBlock, ofKind, blockOf, serviceScale, factoredScale, peak, given, blockUnder, serviceBlock, factoredBlock, isGiven}
+use Rattle.rules.specs.Forces.{service, factored, workedForces, forcesOf}
+use Rattle.rules.specs.Bearing.{_over_, overOne, plus, minus, times, Same, Proper, Triangle, HasKind, StraightLine, carried, sixMomentsAs, sixMoments, SameBlock, isNone, isFull, isFromToe, isFromHeel, kindOf, noBlock, ofKind, blockOf, serviceScale, factoredScale, peak, given, blockUnder, serviceBlock, factoredBlock, isGiven, pressedBy, bearingOf}
 use Rattle.rules.proofs.Accepted.{wall-within, base-length}
 use Rattle.rules.proofs.Examined.{fit}
 use Rattle.rules.proofs.Sizes.{Sized, service-sized, factored-sized}
@@ -326,3 +326,25 @@ module _ (wall : Wall) (loads : List Load) (accepted : T (fits wall loads)) wher
       → Bears (factored wall loads .vertical) (factored wall loads .moment) (pos (baseLength wall)) (factoredBlock wall loads)
   unfolding factoredBlock
   factored-bears = sized-bears factoredScale 90000000 (factored wall loads) (factored-sized wall loads (fit wall loads accepted))
+
+-- ---- what is answered of one wall with its loads
+
+-- where they fit, the blocks are those of the wall under its loads
+pub worked-blocks : (wall : Wall) (loads : List Load) → fits wall loads ≡ true
+    → (bearingOf wall loads .service ≡ pressedBy serviceScale (serviceBlock wall loads))
+    × (bearingOf wall loads .factored ≡ pressedBy factoredScale (factoredBlock wall loads))
+unfolding bearingOf forcesOf workedForces serviceBlock factoredBlock
+worked-blocks wall loads e = rw e (refl, refl)
+
+-- where they are refused, no block is given
+pub refused-blocks : (wall : Wall) (loads : List Load) → fits wall loads ≡ false
+    → (bearingOf wall loads .service ≡ pressedBy serviceScale noBlock) × (bearingOf wall loads .factored ≡ pressedBy factoredScale noBlock)
+unfolding bearingOf forcesOf blockUnder blockOf kindOf isNone ofKind given
+refused-blocks wall loads e = rw e (none serviceScale, none factoredScale)
+  where
+    either : (b : Bool) → cond b noBlock noBlock ≡ noBlock
+    either true = refl
+    either false = refl
+
+    none : (scale : ℕ) → pressedBy scale (given scale noBlock) ≡ pressedBy scale noBlock
+    none scale = ap (pressedBy scale) (either (leb (peak scale noBlock) 2000000))

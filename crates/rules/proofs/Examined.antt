@@ -10,7 +10,7 @@ use lib.Ieee.Bits.{is-true}
 use borrow.Author.Tests.{le-ltb, lt-ltb, lt-leb, eq-eqb}
 use Rattle.rules.specs.declared.Answer.{Answer}
 use Rattle.rules.specs.declared.Answer.the-variants.{Worked, WallOutOfRange, LoadOutOfRange}
-use Rattle.rules.specs.JobFile.{File, Wall, Load, Entry, headerBytes, edition, wallCount, mostLoadsOnWall, wallAt, walls, entries, loadsOn, wallFits, direction, position, deadLoad, liveLoad, loadFits}
+use Rattle.rules.specs.JobFile.{File, Wall, Load, Entry, headerBytes, edition, wallCount, mostLoadsOnWall, wallAt, walls, entries, loadsOn, wallFits, direction, position, deadLoad, liveLoad, loadFits, firstUnfit}
 use Rattle.rules.specs.Answered.{isWorked, refusedIf, _orElse_, countsFit, offsetsAndLengthFit, firstBadWall, entryFits, isOneMore, firstBadLoad, firstRefusal, accepted, alone, examined, fits}
 use Rattle.rules.proofs.AcceptedFile.{loads-join, first-worked, walls-fit, past-wall, past-load, loads-fit, few-from, few-loads}
 
@@ -31,11 +31,6 @@ pub loads-alone : (loads : List Load) → loadsOn 1 (map alone loads) ≡ loads
 unfolding loadsOn
 loads-alone [] = refl
 loads-alone (load ∷ rest) = ap (λ (loads : List Load). load ∷ loads) (loads-alone rest)
-
--- the number of the first load that doesn't fit the wall, where they are numbered from n on; 0 where there is none
-unfoldable pub firstUnfit : Wall → ℕ → List Load → ℕ
-firstUnfit wall n [] = 0
-firstUnfit wall n (load ∷ rest) = cond (loadFits wall load) (firstUnfit wall (suc n) rest) n
 
 abbrev pub refusedLoad : ℕ → Answer
 refusedLoad number = refusedIf (ltb 0 number) (LoadOutOfRange number)

@@ -17,7 +17,6 @@ use Rattle.rules.specs.declared.Block.{Block}
 use Rattle.rules.specs.declared.Pressed.{Pressed}
 use Rattle.rules.specs.declared.Borne.{Borne}
 use Rattle.rules.specs.JobFile.{Wall, Load, baseLength}
-use Rattle.rules.specs.Answered.{fits}
 use Rattle.rules.specs.Forces.{service, factored, forcesOf}
 
 -- ---- fractions
@@ -175,11 +174,12 @@ isGiven b = isGivenKind (b .kind)
 unfoldable pub pressedBy : ℕ → Block → Pressed
 pressedBy scale b = record { block = b; toe = reported scale (b .toe); heel = reported scale (b .heel) }
 
--- what is answered of one wall with its loads: its forces and its blocks; of a refused one, that no block is given
+-- what is answered of one wall with its loads: its forces, and the blocks that bear its totals. A refused one has totals of 0, and so no block.
 unfoldable pub bearingOf : Wall → List Load → Borne
 bearingOf wall loads =
+    let f = forcesOf wall loads in
     record {
-      forces = forcesOf wall loads;
-      service = pressedBy serviceScale (cond (fits wall loads) (serviceBlock wall loads) noBlock);
-      factored = pressedBy factoredScale (cond (fits wall loads) (factoredBlock wall loads) noBlock);
+      forces = f;
+      service = pressedBy serviceScale (blockUnder serviceScale (f .service) wall);
+      factored = pressedBy factoredScale (blockUnder factoredScale (f .factored) wall);
     }

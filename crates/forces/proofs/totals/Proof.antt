@@ -8,10 +8,10 @@ use borrow.Author.Needs.{needs}
 use borrow.Author.Tests.{lt-ltb, le-ltb}
 use lib.ListN.{length}
 use Rattle.rules.specs.declared.Answer.the-variants.{Worked, WallOutOfRange, LoadOutOfRange}
-use Rattle.rules.specs.JobFile.{Wall, Load, mostLoadsOnWall, wallFits}
+use Rattle.rules.specs.JobFile.{Wall, Load, mostLoadsOnWall, wallFits, firstUnfit}
 use Rattle.rules.specs.Answered.{examined}
 use Rattle.rules.specs.Forces.{noForces, forcesOf}
-use Rattle.rules.proofs.Examined.{firstUnfit, examined-is}
+use Rattle.rules.proofs.Examined.{examined-is}
 use Rattle.forces.proofs.totals.Statement.{statement}
 use Rattle.forces.proofs.totals.Tie as tie
 

@@ -1,7 +1,6 @@
 -- `whole::above_zero` meets its contract: what lies above 0 is its own part above 0, and of the rest that part is 0.
 -- Assumes nothing.
 use mathlib.Core.Path.{_≡_, refl}
-use Prim.Native.Nat.{ℕ}
 use native.Mathlib.Omega.{arith}
 use lib.Dec.{T, leb→le}
 use lib.IntN.{ℤ, pos, negsuc, natAbs}

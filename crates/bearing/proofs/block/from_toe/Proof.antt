@@ -1,5 +1,4 @@
 -- `bearing::block::from_toe` meets its contract: its figures are whole numbers.
-use mathlib.Core.Path.{refl}
 use native.Mathlib.Omega.{arith}
 use borrow.Author.Needs.{needs}
 use Rattle.rules.specs.Bearing.{ofKind}

@@ -1,5 +1,4 @@
 -- `bearing::block::over` meets its contract: both numbers are below half of what 64 bits hold.
-use native.Mathlib.Omega.{arith}
 use borrow.Author.Needs.{needs}
 use mir.Syntax.{w64}
 use mir.ValLaws.{toZ-pos}

@@ -1,6 +1,4 @@
 -- `bearing::block::report` meets its contract: the scaled figure fits, and the rest is the rounding.
-use mathlib.Core.Path.{refl}
-use native.Mathlib.Omega.{arith}
 use borrow.Author.Needs.{needs}
 use mir.Syntax.{w64}
 use mir.ValLaws.{toZ-ofZ}

@@ -1,4 +1,4 @@
--- `forces::first_unfit` meets its contract. The invariant: the first load that doesn't fit is the first from the next one on.
+-- `record::first_unfit` meets its contract. The invariant: the first load that doesn't fit is the first from the next one on.
 use mathlib.Core.Path.{_≡_, refl, sym, _∙_}
 use mathlib.Core.Bool.{true, false}
 use mathlib.Core.List.{List, []}
@@ -8,10 +8,9 @@ use native.Mathlib.Numerals.{add-one}
 use borrow.Author.Tests.{not-true, not-false}
 use lib.ListN.{length, drop, getD, drop-of-length-le}
 use lib.Seq.{drop-cons}
-use Rattle.rules.specs.JobFile.{Wall, Load, mostLoadsOnWall, loadFits}
-use Rattle.rules.proofs.Examined.{firstUnfit}
-use Rattle.forces.proofs.first_unfit.Statement.{statement}
-use Rattle.forces.proofs.first_unfit.Tie as tie
+use Rattle.rules.specs.JobFile.{Wall, Load, mostLoadsOnWall, loadFits, firstUnfit}
+use Rattle.record.proofs.first_unfit.Statement.{statement}
+use Rattle.record.proofs.first_unfit.Tie as tie
 
 -- one load is judged, and then those behind it
 module _ (wall : Wall) (loads : List Load) (i : ℕ) (h : i < length loads) where

@@ -1,0 +1,70 @@
+-- The totals that are answered of any wall with its loads can be worked into a block: those of one that fits are small, and those of a refused one are 0.
+use mathlib.Core.Bool.{Bool, true, false, cond}
+use mathlib.Core.List.{List}
+use Prim.Native.Nat.{ℕ, _*_, _≤_, _<_, _^_}
+use native.Mathlib.Nat.{mul-le-mul, mul-le-mul-left}
+use native.Mathlib.Omega.{arith}
+use lib.Dec.{T, lit≤, lit<}
+use lib.IntN.{ℤ, pos, negsuc, _*ℤ_}
+use lib.Signed.{_<ℤ_, ≤ℤ-refl}
+use Rattle.whole.specs.Parts.{aboveZero}
+use Rattle.whole.proofs.Integer.{≤ℤ-of-<ℤ, pos-<ℤ}
+use Rattle.rules.specs.declared.Totals.{Totals}
+use Rattle.rules.specs.declared.Forces.{Forces}
+use Rattle.rules.specs.JobFile.{Wall, Load, baseLength}
+use Rattle.rules.specs.Answered.{examined, fits}
+use Rattle.rules.specs.Forces.{noTotals, noForces, workedForces, forcesOf}
+use Rattle.rules.proofs.Accepted.{wall-within, base-length}
+use Rattle.rules.proofs.Examined.{fit}
+use Rattle.rules.proofs.Sizes.{Sized, service-sized, factored-sized}
+use Rattle.bearing.specs.Within.{Scaled, Workable}
+
+-- small totals are, at a scale that suits them
+module _ (scale most l : ℕ) (small : scale ≤ 1000) (light : most ≤ 90000000) (square : scale * (4 * most * most) < 2 ^ 64) (long : (0 < l) × (l ≤ 11500)) where
+  scaled : (R M6 : ℤ) → pos 0 <ℤ R → R <ℤ pos most → M6 <ℤ (pos 6 *ℤ R *ℤ pos l) → 0 < aboveZero M6 → Scaled scale (aboveZero R) (aboveZero M6) l
+  scaled (pos r) (pos m) some less on up =
+      let under : r ≤ most = omega (arith, pos-<ℤ .0 less) in
+      let squares : 4 * r * r ≤ 4 * most * most = omega (arith, mul-le-mul under under) in
+      record {
+        within = record { vertical = (pos-<ℤ .0 some, omega (arith, pos-<ℤ .0 less)); length = long; on-base = pos-<ℤ .0 on };
+        small = small;
+        square = omega (arith, mul-le-mul-left scale squares);
+      }
+  scaled (pos r) (negsuc m) some less on up = absurd (omega arith)
+  scaled (negsuc r) M6 some less on up = absurd (some .lt)
+
+  sized : (t : Totals) → Sized (pos l) most t → Workable scale l t
+  sized t s = record { least = ≤ℤ-of-<ℤ (s .some); scaled = scaled (t .vertical) (t .moment) (s .some) (s .vertical) (s .on-base) }
+
+-- and so are totals of 0, which have no block
+none : (scale l : ℕ) → Workable scale l noTotals
+none scale l = record { least = ≤ℤ-refl (pos 0); scaled = λ some. absurd (omega arith) }
+
+module _ (wall : Wall) (loads : List Load) where
+  -- what holds of the forces on a wall that fits with its loads, and of a refusal, holds of any answer
+  answered : (P : Forces → Type 0) → (T (fits wall loads) → P (workedForces wall loads)) → P (noForces (examined wall loads)) → P (forcesOf wall loads)
+  unfolding forcesOf
+  answered P f g = go (fits wall loads) f
+    where
+      go : (b : Bool) → (T b → P (workedForces wall loads)) → P (cond b (workedForces wall loads) (noForces (examined wall loads)))
+      go true f = f tt
+      go false f = g
+
+  long : T (fits wall loads) → (0 < baseLength wall) × (baseLength wall ≤ 11500)
+  long t = omega (arith, base-length (wall-within wall (fit wall loads t .wall-fits)))
+
+  -- the totals in service, answered of any wall with its loads
+  pub service-workable : Workable 1000 (baseLength wall) (forcesOf wall loads .service)
+  unfolding workedForces
+  service-workable =
+      answered (λ f. Workable 1000 (baseLength wall) (f .service))
+      (λ t. sized 1000 6000000 (baseLength wall) (lit≤ tt) (lit≤ tt) (lit< tt) (long t) _ (service-sized wall loads (fit wall loads t)))
+      (none 1000 (baseLength wall))
+
+  -- and the factored totals
+  pub factored-workable : Workable 100 (baseLength wall) (forcesOf wall loads .factored)
+  unfolding workedForces
+  factored-workable =
+      answered (λ f. Workable 100 (baseLength wall) (f .factored))
+      (λ t. sized 100 90000000 (baseLength wall) (lit≤ tt) (lit≤ tt) (lit< tt) (long t) _ (factored-sized wall loads (fit wall loads t)))
+      (none 100 (baseLength wall))
