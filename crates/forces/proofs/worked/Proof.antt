@@ -49,13 +49,13 @@ field-requires : tie.Need-field-requires
 field-requires c κs = search needs
 
 filled-requires : tie.Need-filled-requires
-filled-requires c κs = let t = c .before .before .pre in (t, omega (arith, wall-within _ (fit _ _ t .wall-fits) .active))
+filled-requires c κs = let t = c .before .before .pre in (t, omega (arith, wall-within _ (fit _ _ t .wall-fits)))
 
 field-requires-2 : tie.Need-field-requires-2
 field-requires-2 c κs = search needs
 
 filled-requires-2 : tie.Need-filled-requires-2
-filled-requires-2 c κs = let t = c .before .before .before .before .pre in (t, omega (arith, wall-within _ (fit _ _ t .wall-fits) .rest))
+filled-requires-2 c κs = let t = c .before .before .before .before .pre in (t, omega (arith, wall-within _ (fit _ _ t .wall-fits)))
 
 -- the code's two tables
 active : (c : tie.After-filled) → let start = c .before .before .before in
