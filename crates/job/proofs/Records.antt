@@ -1,4 +1,5 @@
 -- Numbers past the end of a file are 0. Records are read number by number: a law for any length, which the reading of a wall and of an entry cite.
+-- Loads are passed one after the other.
 use mathlib.Core.Path.{_≡_, refl, sym, ap, _∙_}
 use mathlib.Core.List.{List, [], _∷_, _++_}
 use Prim.Native.Nat.{ℕ, zero, suc, _+_, _*_, _≤_, _<_}
@@ -6,7 +7,8 @@ use native.Mathlib.Omega.{arith}
 use native.Mathlib.Numerals.{add-one}
 use lib.ListN.{length, take, set, length-set, List·getD-eq-default}
 use lib.Seq.{take-all, take-suc-set}
-use Rattle.rules.specs.JobFile.{File, byteAt, u16At, u32At, u32sAt}
+use Rattle.rules.specs.JobFile.{File, Entry, byteAt, u16At, u32At, u32sAt, entryAt, recordsFrom}
+use Rattle.rules.proofs.AcceptedFile.{records-more}
 
 -- ---- past the end
 
@@ -58,3 +60,13 @@ pub all-read : (file : File) (at n k : ℕ) (xs : List ℕ) → n ≤ k → Read
 all-read file at n k xs h read =
     let e : k ≡ n = omega arith in
     sym (take-all k xs (omega arith)) ∙ read .same ∙ ap (u32sAt file at) e
+
+-- ---- loads one behind the other
+
+-- the loads before an index
+abbrev pub passedLoads : File → ℕ → List Entry
+passedLoads file i = recordsFrom (entryAt file) 0 i
+
+-- the next one stands behind them
+pub one-passed : (file : File) (i : ℕ) (entry : Entry) → entry ≡ entryAt file i → passedLoads file (suc i) ≡ passedLoads file i ++ entry ∷ []
+one-passed file i entry its = let e : 0 + i ≡ i = omega arith in rw (records-more, e, its)

@@ -1,4 +1,4 @@
-// A job file taken apart. Any bytes have header numbers and records; and they have a first refusal, or are worked.
+// A job file taken apart: any bytes have header numbers, walls, entries, and loads of each wall.
 use record::DEAD;
 use record::DIRECTION;
 use record::FIELDS;
@@ -9,15 +9,12 @@ use record::Loads;
 use record::MOST_LOADS_ON_WALL;
 use record::POSITION;
 use record::Wall;
-use rules::Answer;
 
 mod bytes;
-mod refusals;
 
 ghost use mathlib.Core.Path.{_≡_};
 ghost use Prim.Native.Nat.{_<_, _^_};
 ghost use Rattle.rules.specs.JobFile.{edition, wallCount, firstWallOffset, loadCount, firstLoadOffset, wholeLength, entriesAt, wallAt, entryAt, entries, loadOf};
-ghost use Rattle.rules.specs.Answered.{isWorked, firstRefusal};
 ghost use Rattle.job.specs.Places.{loadNumbered, withPlace, placeTable, loadsAt};
 
 // The layout: a header, walls, and behind them entries, each a wall's number and a load.
@@ -30,7 +27,7 @@ pub const ENTRY_FIELDS: usize = 1 + LOAD_FIELDS;
 pub const ENTRY_BYTES: usize = 4 * ENTRY_FIELDS;
 
 // Where an entry has the number of its wall, and behind it each part of the load.
-const WALL_NUMBER: usize = 0;
+pub const WALL_NUMBER: usize = 0;
 
 const ENTRY_DIRECTION: usize = 1 + DIRECTION;
 
@@ -39,9 +36,6 @@ const ENTRY_POSITION: usize = 1 + POSITION;
 const ENTRY_DEAD: usize = 1 + DEAD;
 
 const ENTRY_LIVE: usize = 1 + LIVE;
-
-// The edition that is read.
-const EDITION: u16 = 1;
 
 // How many walls and loads a file may have.
 pub const MOST_WALLS: usize = 64;
@@ -107,7 +101,7 @@ pub fn wall_at(file: &[u8], i: u32) -> Wall
 }
 
 // Where the first entry stands: behind as many walls as the header says.
-fn entries_at(file: &[u8]) -> usize
+pub fn entries_at(file: &[u8]) -> usize
     ensures { λ r. ⌜ (r ≡ entriesAt (now (file .entry))) × (r < 2 ^ 24) ⌝ }
 {
     HEADER_BYTES + WALL_BYTES * (wall_count(file) as usize)
@@ -126,7 +120,7 @@ pub fn entry_at(file: &[u8], i: u32) -> Entry
 }
 
 // An entry's load: everything but the number of its wall.
-fn load_of(entry: Entry) -> Load
+pub fn load_of(entry: Entry) -> Load
     ensures { λ r. ⌜ r ≡ loadOf entry ⌝ }
 {
     [
@@ -187,41 +181,4 @@ pub fn loads_at(file: &[u8], row: PlaceRow) -> Loads
         loads[i] = load_numbered(file, row[i]);
     }
     loads
-}
-
-// Is it no refusal?
-pub fn is_worked(answer: Answer) -> bool
-    ensures { λ r. ⌜ r ≡ isWorked answer ⌝ }
-{
-    match answer {
-        Answer::Worked => true,
-        _ => false,
-    }
-}
-
-// What is answered of the file: the tests of the header one after the other, then the walls, then the loads.
-pub fn first_refusal(file: &[u8]) -> Answer
-    ensures { λ r. ⌜ r ≡ firstRefusal (now (file .entry)) ⌝ }
-{
-    let too_short = file.len() < HEADER_BYTES;
-    let wrong_edition = edition(file) != EDITION;
-    let count_out_of_range = !refusals::counts_fit(file);
-    let wrong_offset_or_length = !refusals::offsets_and_length_fit(file);
-    if too_short {
-        return Answer::TooShort;
-    }
-    if wrong_edition {
-        return Answer::WrongEdition;
-    }
-    if count_out_of_range {
-        return Answer::CountOutOfRange;
-    }
-    if wrong_offset_or_length {
-        return Answer::WrongOffsetOrLength;
-    }
-    let bad_wall = refusals::first_bad_wall(file);
-    if !is_worked(bad_wall) {
-        return bad_wall;
-    }
-    refusals::first_bad_load(file)
 }

@@ -10,8 +10,8 @@ use lib.ListN.{getD, set}
 use Rattle.rules.specs.JobFile.{File, Entry, mostWalls, entryAt, recordsFrom, entries, wallOf, numbersOn}
 use Rattle.rules.proofs.AcceptedFile.{records-length}
 use Rattle.job.specs.Places.{padded, placesOn, placeTable, withPlace}
-use Rattle.job.proofs.Judged.{passedLoads, one-passed}
 use Rattle.job.proofs.PlacesOfLoads.{in-table, not-in-table}
+use Rattle.job.proofs.Records.{passedLoads, one-passed}
 use Rattle.job.proofs.places.Statement.{statement}
 use Rattle.job.proofs.places.Tie as tie
 

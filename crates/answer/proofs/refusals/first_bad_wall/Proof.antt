@@ -1,4 +1,4 @@
--- `job::refusals::first_bad_wall` meets its contract. The invariant: the answer is that of the walls from the next one on.
+-- `answer::refusals::first_bad_wall` meets its contract. The invariant: the answer is that of the walls from the next one on.
 use mathlib.Core.Path.{_≡_, sym, _∙_}
 use Prim.Native.Nat.{_-_, _≤_, _<_, _^_}
 use native.Mathlib.Omega.{arith}
@@ -6,9 +6,9 @@ use native.Mathlib.Numerals.{add-one}
 use borrow.Author.Tests.{not-true, not-false}
 use Rattle.rules.specs.JobFile.{walls}
 use Rattle.rules.specs.Answered.{firstBadWall}
-use Rattle.job.proofs.Judged.{fromWall, wall-refused, wall-passed, walls-passed}
-use Rattle.job.proofs.refusals.first_bad_wall.Statement.{statement}
-use Rattle.job.proofs.refusals.first_bad_wall.Tie as tie
+use Rattle.answer.proofs.Judged.{fromWall, wall-refused, wall-passed, walls-passed}
+use Rattle.answer.proofs.refusals.first_bad_wall.Statement.{statement}
+use Rattle.answer.proofs.refusals.first_bad_wall.Tie as tie
 
 abbrev Inv-loop : tie.InvT-loop
 Inv-loop file count i₀ i = (i ≤ count) × (count < 2 ^ 16) × (firstBadWall 1 (walls file) ≡ fromWall file count i)

@@ -1,11 +1,11 @@
--- `job::refusals::count_on` meets its contract. Beyond the counts there is none.
+-- `answer::refusals::count_on` meets its contract. Beyond the counts there is none.
 use mathlib.Core.Path.{sym}
 use Prim.Native.Nat.{_≤_}
 use native.Mathlib.Omega.{arith}
 use borrow.Author.Needs.{needs}
 use lib.ListN.{length, List·getD-eq-default}
-use Rattle.job.proofs.refusals.count_on.Statement.{statement}
-use Rattle.job.proofs.refusals.count_on.Tie as tie
+use Rattle.answer.proofs.refusals.count_on.Statement.{statement}
+use Rattle.answer.proofs.refusals.count_on.Tie as tie
 
 mul-result : tie.Need-mul-result
 mul-result c = search needs

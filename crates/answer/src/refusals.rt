@@ -1,10 +1,10 @@
 // Document 01, "What is answered": the tests of the counts, of the offsets and the length, of the walls and of the loads.
-use crate::ENTRY_BYTES;
-use crate::Entry;
-use crate::HEADER_BYTES;
-use crate::MOST_LOADS;
-use crate::MOST_WALLS;
-use crate::WALL_NUMBER;
+use job::ENTRY_BYTES;
+use job::Entry;
+use job::HEADER_BYTES;
+use job::MOST_LOADS;
+use job::MOST_WALLS;
+use job::WALL_NUMBER;
 use record::MOST_LOADS_ON_WALL;
 use rules::Answer;
 ghost use mathlib.Core.Path.{_≡_};
@@ -18,30 +18,30 @@ ghost use Rattle.rules.specs.Answered.{countsFit, offsetsAndLengthFit, firstBad
 pub fn counts_fit(file: &[u8]) -> bool
     ensures { λ r. ⌜ r ≡ countsFit (now (file .entry)) ⌝ }
 {
-    let walls = crate::wall_count(file) as usize;
+    let walls = job::wall_count(file) as usize;
     if walls < 1 {
         return false;
     }
     if MOST_WALLS < walls {
         return false;
     }
-    crate::load_count(file) as usize <= MOST_LOADS
+    job::load_count(file) as usize <= MOST_LOADS
 }
 
 // 4: are both offsets and the length those that the counts give, and is the length the input's?
 pub fn offsets_and_length_fit(file: &[u8]) -> bool
     ensures { λ r. ⌜ r ≡ offsetsAndLengthFit (now (file .entry)) ⌝ }
 {
-    let first_load = crate::entries_at(file);
-    let length = crate::whole_length(file) as usize;
+    let first_load = job::entries_at(file);
+    let length = job::whole_length(file) as usize;
     let input = file.len();
-    if crate::first_wall_offset(file) as usize != HEADER_BYTES {
+    if job::first_wall_offset(file) as usize != HEADER_BYTES {
         return false;
     }
-    if crate::first_load_offset(file) as usize != first_load {
+    if job::first_load_offset(file) as usize != first_load {
         return false;
     }
-    if length != first_load + ENTRY_BYTES * (crate::load_count(file) as usize) {
+    if length != first_load + ENTRY_BYTES * (job::load_count(file) as usize) {
         return false;
     }
     length == input
@@ -51,9 +51,9 @@ pub fn offsets_and_length_fit(file: &[u8]) -> bool
 pub fn first_bad_wall(file: &[u8]) -> Answer
     ensures { λ r. ⌜ r ≡ firstBadWall 1 (walls (now (file .entry))) ⌝ }
 {
-    let count = crate::wall_count(file) as u32;
+    let count = job::wall_count(file) as u32;
     for i in 0..count {
-        let wall = crate::wall_at(file, i);
+        let wall = job::wall_at(file, i);
         if !record::wall_fits(wall) {
             return Answer::WallOutOfRange(i + 1);
         }
@@ -69,11 +69,11 @@ fn entry_fits(file: &[u8], entry: Entry) -> bool
     if number < 1 {
         return false;
     }
-    if (crate::wall_count(file) as u32) < number {
+    if (job::wall_count(file) as u32) < number {
         return false;
     }
-    let wall = crate::wall_at(file, number - 1);
-    record::load_fits(wall, crate::load_of(entry))
+    let wall = job::wall_at(file, number - 1);
+    record::load_fits(wall, job::load_of(entry))
 }
 
 // A count for each wall number, from 0 on.
@@ -95,10 +95,10 @@ pub fn first_bad_load(file: &[u8]) -> Answer
     requires { ⌜ wallCount (now file) ≤ mostWalls ⌝ }
     ensures { λ r. ⌜ r ≡ firstBadLoad (walls (now (file .entry))) [] 1 (entries (now (file .entry))) ⌝ }
 {
-    let loads = crate::load_count(file) as u32;
+    let loads = job::load_count(file) as u32;
     let mut counts = [0u32; COUNTS];
     for i in 0..loads {
-        let entry = crate::entry_at(file, i);
+        let entry = job::entry_at(file, i);
         let number = entry[WALL_NUMBER];
         let out_of_range = !entry_fits(file, entry);
         let passed = count_on(counts, number);

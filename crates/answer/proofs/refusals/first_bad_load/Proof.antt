@@ -1,4 +1,4 @@
--- `job::refusals::first_bad_load` meets its contract. The invariant: the loads passed are counted, wall by wall, and the answer is that of
+-- `answer::refusals::first_bad_load` meets its contract. The invariant: the loads passed are counted, wall by wall, and the answer is that of
 -- the loads from the next one on.
 use mathlib.Core.Path.{_≡_, sym, _∙_}
 use mathlib.Core.Bool.{Bool, false, not}
@@ -9,9 +9,10 @@ use native.Mathlib.Numerals.{add-one}
 use borrow.Author.Tests.{leb-false, not-true, not-false}
 use Rattle.rules.specs.JobFile.{File, Entry, wallCount, mostWalls, mostLoadsOnWall, recordsFrom, walls, entries, wallOf}
 use Rattle.rules.specs.Answered.{entryFits, firstBadLoad}
-use Rattle.job.proofs.Judged.{passedLoads, fromLoad, load-refused, load-is-ninth, load-passed, loads-passed, has-wall, Counted, none-counted, next-counted, is-one-more}
-use Rattle.job.proofs.refusals.first_bad_load.Statement.{statement}
-use Rattle.job.proofs.refusals.first_bad_load.Tie as tie
+use Rattle.job.proofs.Records.{passedLoads}
+use Rattle.answer.proofs.Judged.{fromLoad, load-refused, load-is-ninth, load-passed, loads-passed, has-wall, Counted, none-counted, next-counted, is-one-more}
+use Rattle.answer.proofs.refusals.first_bad_load.Statement.{statement}
+use Rattle.answer.proofs.refusals.first_bad_load.Tie as tie
 
 -- a load that fits is on one of the walls that are counted
 on-wall : (file : File) (entry : Entry) (fits : Bool) → fits ≡ entryFits (walls file) entry → not fits ≡ false → wallCount file ≤ mostWalls

@@ -1,4 +1,4 @@
--- `job::first_refusal` meets its contract. Each answer follows from the tests that led to it.
+-- `answer::first_refusal` meets its contract. Each answer follows from the tests that led to it.
 use mathlib.Core.Path.{_≡_, sym, subst, _∙_}
 use mathlib.Core.Bool.{Bool, false, not}
 use mathlib.Core.List.{[]}
@@ -10,8 +10,8 @@ use lib.ListN.{length}
 use Rattle.rules.specs.JobFile.{File, edition, headerBytes, walls, entries}
 use Rattle.rules.specs.Answered.{_orElse_, countsFit, offsetsAndLengthFit, firstBadWall, firstBadLoad, firstRefusal}
 use Rattle.rules.proofs.AcceptedFile.{walls-counted}
-use Rattle.job.proofs.first_refusal.Statement.{statement}
-use Rattle.job.proofs.first_refusal.Tie as tie
+use Rattle.answer.proofs.first_refusal.Statement.{statement}
+use Rattle.answer.proofs.first_refusal.Tie as tie
 
 -- what is answered of a file whose header passes the first four tests
 past-header : (file : File) {number : ℕ} {counts offsets : Bool} → ltb (length file) headerBytes ≡ false → number ≡ edition file → not (eqb number 1) ≡ false

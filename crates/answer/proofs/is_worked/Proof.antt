@@ -1,4 +1,4 @@
--- `job::is_worked` meets its contract. The second arm is that of every other answer.
+-- `answer::is_worked` meets its contract. The second arm is that of every other answer.
 use mathlib.Core.Path.{_≡_, refl, sym}
 use mathlib.Core.Bool.{false}
 use mathlib.Core.List.{[], _∷_}
@@ -7,8 +7,8 @@ use types.Run.{miss}
 use Rattle.rules.specs.declared.Answer.{Answer}
 use Rattle.rules.specs.declared.Answer.the-variants.{Worked, TooShort, WrongEdition, CountOutOfRange, WrongOffsetOrLength, WallOutOfRange, LoadOutOfRange, NinthLoad, BufferTooShort, NoSuchWall}
 use Rattle.rules.specs.Answered.{isWorked}
-use Rattle.job.proofs.is_worked.Statement.{statement}
-use Rattle.job.proofs.is_worked.Tie as tie
+use Rattle.answer.proofs.is_worked.Statement.{statement}
+use Rattle.answer.proofs.is_worked.Tie as tie
 
 -- every answer but the one is a refusal
 refused : (answer : Answer) → (answer ≡ Worked → ⊥) → isWorked answer ≡ false

@@ -1,4 +1,4 @@
--- `job::refusals::entry_fits` meets its contract. The walls are as many as the header says, and each is the one that is read.
+-- `answer::refusals::entry_fits` meets its contract. The walls are as many as the header says, and each is the one that is read.
 use Prim.Native.Nat.{_-_, _<_}
 use native.Mathlib.Omega.{arith}
 use borrow.Author.Needs.{needs}
@@ -7,8 +7,8 @@ use lib.ListN.{getD}
 use Rattle.rules.specs.JobFile.{wallCount}
 use Rattle.rules.specs.Answered.{entryFits}
 use Rattle.rules.proofs.AcceptedFile.{walls-length, wall-at}
-use Rattle.job.proofs.refusals.entry_fits.Statement.{statement}
-use Rattle.job.proofs.refusals.entry_fits.Tie as tie
+use Rattle.answer.proofs.refusals.entry_fits.Statement.{statement}
+use Rattle.answer.proofs.refusals.entry_fits.Tie as tie
 
 array-read-number : tie.Need-array-read-number
 array-read-number c = search needs

@@ -1,9 +1,9 @@
--- `job::refusals::counts_fit` meets its contract. Each answer follows from the tests that led to it.
+-- `answer::refusals::counts_fit` meets its contract. Each answer follows from the tests that led to it.
 use borrow.Author.Needs.{needs}
 use borrow.Author.Tests.{le-leb, lt-leb}
 use Rattle.rules.specs.Answered.{countsFit}
-use Rattle.job.proofs.refusals.counts_fit.Statement.{statement}
-use Rattle.job.proofs.refusals.counts_fit.Tie as tie
+use Rattle.answer.proofs.refusals.counts_fit.Statement.{statement}
+use Rattle.answer.proofs.refusals.counts_fit.Tie as tie
 
 wall-count-requires : tie.Need-wall-count-requires
 wall-count-requires c κs = search needs

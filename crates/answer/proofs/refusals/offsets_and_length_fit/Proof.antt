@@ -1,4 +1,4 @@
--- `job::refusals::offsets_and_length_fit` meets its contract. Each answer follows from the tests that led to it.
+-- `answer::refusals::offsets_and_length_fit` meets its contract. Each answer follows from the tests that led to it.
 use mathlib.Core.Path.{_≡_, sym, _∙_}
 use mathlib.Core.Bool.{_&&_}
 use Prim.Native.Nat.{ℕ, _+_, _*_}
@@ -8,8 +8,8 @@ use lib.Dec.{eqb}
 use lib.ListN.{length}
 use Rattle.rules.specs.JobFile.{File, headerBytes, entryBytes, firstWallOffset, loadCount, firstLoadOffset, wholeLength, entriesAt}
 use Rattle.rules.specs.Answered.{offsetsAndLengthFit}
-use Rattle.job.proofs.refusals.offsets_and_length_fit.Statement.{statement}
-use Rattle.job.proofs.refusals.offsets_and_length_fit.Tie as tie
+use Rattle.answer.proofs.refusals.offsets_and_length_fit.Statement.{statement}
+use Rattle.answer.proofs.refusals.offsets_and_length_fit.Tie as tie
 
 -- what is left of the four tests once the two offsets are right
 last-two : (file : File) {wall load start whole loads : ℕ} → wall ≡ firstWallOffset file → wall ≡ headerBytes → load ≡ firstLoadOffset file

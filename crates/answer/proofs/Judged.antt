@@ -13,7 +13,8 @@ use Rattle.rules.specs.declared.Answer.the-variants.{Worked, WallOutOfRange, Lo
 use Rattle.rules.specs.JobFile.{File, Wall, Entry, wallCount, wallAt, entryAt, recordsFrom, walls, wallOf, loadOf, loadsOn, wallFits, loadFits, mostWalls, mostLoadsOnWall}
 use Rattle.rules.specs.Answered.{firstBadWall, isThere, numbered, entryFits, isOneMore, firstBadLoad}
 use Rattle.rules.proofs.Accepted.{both}
-use Rattle.rules.proofs.AcceptedFile.{records-more, loads-join, walls-length}
+use Rattle.rules.proofs.AcceptedFile.{loads-join, walls-length}
+use Rattle.job.proofs.Records.{passedLoads, one-passed}
 
 -- the records that are left are the next one and those behind it
 records-next : (f : ℕ → List ℕ) (i n : ℕ) → i < n → recordsFrom f i (n - i) ≡ f i ∷ recordsFrom f (suc i) (n - suc i)
@@ -47,14 +48,6 @@ module _ (file : File) (n i : ℕ) where
   walls-passed e = rw (e, records-none (wallAt file) n)
 
 -- ---- loads
-
--- the loads before an index
-abbrev pub passedLoads : File → ℕ → List Entry
-passedLoads file i = recordsFrom (entryAt file) 0 i
-
--- the next one stands behind them
-pub one-passed : (file : File) (i : ℕ) (entry : Entry) → entry ≡ entryAt file i → passedLoads file (suc i) ≡ passedLoads file i ++ entry ∷ []
-one-passed file i entry its = let e : 0 + i ≡ i = omega arith in rw (records-more, e, its)
 
 -- what is answered from the load at an index on, of n loads, behind those that were passed
 abbrev pub fromLoad : File → ℕ → ℕ → Answer
