@@ -13,7 +13,7 @@ use Rattle.whole.specs.Rounding.{roundedUp}
 use Rattle.whole.proofs.Integer.{pos-≤ℤ, pos-<ℤ, nonneg-aboveZero}
 use Rattle.rules.specs.declared.Kind.the-variants.{Full, FromToe, FromHeel}
 use Rattle.rules.specs.declared.Block.{Block}
-use Rattle.rules.specs.Bearing.{isNone, kindOf, noBlock, ofKind, blockOf, overOne, reported, peak, given, pressedBy}
+use Rattle.rules.specs.Bearing.{isNone, kindOf, noBlock, ofKind, blockOf, overOne, reported, peak, greatestPeak, given, pressedBy}
 use Rattle.bearing.specs.Within.{Scaled, Reportable}
 use Rattle.bearing.proofs.Bounds.{bounds}
 use Rattle.bearing.proofs.Cases.{none, made, full-figures, heel-figures}
@@ -28,7 +28,7 @@ whole-block R (negsuc m) l h = refl
 
 -- it is a block of one of the three kinds, whose figures are no more than 4Rl or 4R^2
 module _ (scale R M6 l : ℕ) (some : 0 < M6) (s : Scaled scale R M6 l) where
-  along : (n : ℕ) → n ≤ 4 * R * l → scale * n < 2 ^ 64
+  along : (n : ℕ) → n ≤ 4 * R * l → scale * n < 2 ^ 63
   along n h = omega (arith, bounds (s .within), mul-le-mul (s .small) h)
 
   beyond : 2 * R * l ≤ M6 → (test : Bool) → leb M6 (4 * R * l) ≡ test → Reportable scale (blockOf (pos R) (pos M6) (pos l))
@@ -60,10 +60,10 @@ unfolding reported roundedUp
 none-reported scale = rw (mul-zero scale)
 
 module _ (scale : ℕ) (b : Block) (toe heel : ℕ) (left : toe ≡ reported scale (b .toe)) (right : heel ≡ reported scale (b .heel)) where
-  pub is-given : max toe heel ≤ 2000000 → record { block = b; toe = toe; heel = heel } ≡ pressedBy scale (given scale b)
+  pub is-given : max toe heel ≤ greatestPeak → record { block = b; toe = toe; heel = heel } ≡ pressedBy scale (given scale b)
   unfolding peak given pressedBy
-  is-given h = rw (left, right, le-leb (peak scale b) 2000000 (rw (left, right) at h))
+  is-given h = rw (left, right, le-leb (peak scale b) greatestPeak (rw (left, right) at h))
 
-  pub not-given : 2000000 < max toe heel → record { block = noBlock; toe = 0; heel = 0 } ≡ pressedBy scale (given scale b)
+  pub not-given : greatestPeak < max toe heel → record { block = noBlock; toe = 0; heel = 0 } ≡ pressedBy scale (given scale b)
   unfolding peak given pressedBy
-  not-given h = rw (lt-leb (peak scale b) 2000000 (rw (left, right) at h), none-reported scale)
+  not-given h = rw (lt-leb (peak scale b) greatestPeak (rw (left, right) at h), none-reported scale)

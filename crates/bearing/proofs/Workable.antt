@@ -14,13 +14,14 @@ use Rattle.rules.specs.declared.Forces.{Forces}
 use Rattle.rules.specs.JobFile.{Wall, Load, baseLength}
 use Rattle.rules.specs.Answered.{examined, fits}
 use Rattle.rules.specs.Forces.{noTotals, noForces, workedForces, forcesOf}
+use Rattle.rules.specs.Bearing.{serviceScale, factoredScale}
 use Rattle.rules.proofs.Accepted.{wall-within, base-length}
 use Rattle.rules.proofs.Examined.{fit}
-use Rattle.rules.proofs.Sizes.{Sized, service-sized, factored-sized}
+use Rattle.rules.proofs.Sizes.{Sized, heaviest, heaviestFactored, service-sized, factored-sized}
 use Rattle.bearing.specs.Within.{Scaled, Workable}
 
 -- small totals are, at a scale that suits them
-module _ (scale most l : ℕ) (small : scale ≤ 1000) (light : most ≤ 90000000) (square : scale * (4 * most * most) < 2 ^ 64) (long : (0 < l) × (l ≤ 11500)) where
+module _ (scale most l : ℕ) (small : scale ≤ 1000) (light : most ≤ heaviestFactored) (square : scale * (4 * most * most) < 2 ^ 63) (long : (0 < l) × (l ≤ 11500)) where
   scaled : (R M6 : ℤ) → pos 0 <ℤ R → R <ℤ pos most → M6 <ℤ (pos 6 *ℤ R *ℤ pos l) → 0 < aboveZero M6 → Scaled scale (aboveZero R) (aboveZero M6) l
   scaled (pos r) (pos m) some less on up =
       let under : r ≤ most = omega (arith, pos-<ℤ .0 less) in
@@ -54,17 +55,17 @@ module _ (wall : Wall) (loads : List Load) where
   long t = omega (arith, base-length (wall-within wall (fit wall loads t .wall-fits)))
 
   -- the totals in service, answered of any wall with its loads
-  pub service-workable : Workable 1000 (baseLength wall) (forcesOf wall loads .service)
+  pub service-workable : Workable serviceScale (baseLength wall) (forcesOf wall loads .service)
   unfolding workedForces
   service-workable =
-      answered (λ f. Workable 1000 (baseLength wall) (f .service))
-      (λ t. sized 1000 6000000 (baseLength wall) (lit≤ tt) (lit≤ tt) (lit< tt) (long t) _ (service-sized wall loads (fit wall loads t)))
-      (none 1000 (baseLength wall))
+      answered (λ f. Workable serviceScale (baseLength wall) (f .service))
+      (λ t. sized serviceScale heaviest (baseLength wall) (lit≤ tt) (lit≤ tt) (lit< tt) (long t) _ (service-sized wall loads (fit wall loads t)))
+      (none serviceScale (baseLength wall))
 
   -- and the factored totals
-  pub factored-workable : Workable 100 (baseLength wall) (forcesOf wall loads .factored)
+  pub factored-workable : Workable factoredScale (baseLength wall) (forcesOf wall loads .factored)
   unfolding workedForces
   factored-workable =
-      answered (λ f. Workable 100 (baseLength wall) (f .factored))
-      (λ t. sized 100 90000000 (baseLength wall) (lit≤ tt) (lit≤ tt) (lit< tt) (long t) _ (factored-sized wall loads (fit wall loads t)))
-      (none 100 (baseLength wall))
+      answered (λ f. Workable factoredScale (baseLength wall) (f .factored))
+      (λ t. sized factoredScale heaviestFactored (baseLength wall) (lit≤ tt) (lit≤ tt) (lit< tt) (long t) _ (factored-sized wall loads (fit wall loads t)))
+      (none factoredScale (baseLength wall))

@@ -5,10 +5,11 @@ use lib.Signed.{_≤ℤ_}
 use Rattle.whole.specs.Parts.{aboveZero}
 use Rattle.rules.specs.declared.Totals.{Totals}
 use Rattle.rules.specs.declared.Block.{Block}
+use Rattle.rules.proofs.Sizes.{heaviestFactored}
 
 -- R, M6 and l, of an accepted wall in service or factored
 pub record Within (R M6 l : ℕ) : Type 0 where
-  pub vertical : (0 < R) × (R < 90000000)
+  pub vertical : (0 < R) × (R < heaviestFactored)
   pub length : (0 < l) × (l ≤ 11500)
   pub on-base : M6 < 6 * R * l
 
@@ -16,7 +17,7 @@ pub record Within (R M6 l : ℕ) : Type 0 where
 pub record Scaled (scale R M6 l : ℕ) : Type 0 where
   pub within : Within R M6 l
   pub small : scale ≤ 1000
-  pub square : scale * (4 * R * R) < 2 ^ 64
+  pub square : scale * (4 * R * R) < 2 ^ 63
 
 -- totals that a block can be worked from and reported by; where M6 isn't above 0 there is none to work
 pub record Workable (scale l : ℕ) (t : Totals) : Type 0 where
@@ -25,5 +26,5 @@ pub record Workable (scale l : ℕ) (t : Totals) : Type 0 where
 
 -- a block's pressures can be multiplied by the scale
 pub record Reportable (scale : ℕ) (b : Block) : Type 0 where
-  pub toe : scale * aboveZero (b .toe .over) < 2 ^ 64
-  pub heel : scale * aboveZero (b .heel .over) < 2 ^ 64
+  pub toe : scale * aboveZero (b .toe .over) < 2 ^ 63
+  pub heel : scale * aboveZero (b .heel .over) < 2 ^ 63

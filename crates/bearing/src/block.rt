@@ -5,7 +5,7 @@ use rules::Kind;
 use rules::Pressed;
 use rules::Totals;
 ghost use mathlib.Core.Path.{_≡_};
-ghost use Prim.Native.Nat.{_*_, _≤_, _<_, _^_, max};
+ghost use Prim.Native.Nat.{_*_, _≤_, _<_, _^_};
 ghost use lib.IntN.{pos};
 ghost use lib.Signed.{_≤ℤ_};
 ghost use Rattle.rules.specs.declared.Kind.the-variants.{Full, FromToe, FromHeel};
@@ -13,8 +13,8 @@ ghost use Rattle.whole.specs.Parts.{aboveZero};
 ghost use Rattle.rules.specs.Bearing.{_over_, noBlock, ofKind, blockOf, reported, given, pressedBy};
 ghost use Rattle.bearing.specs.Within.{Within, Workable, Reportable};
 
-// What a block may report at most, in N/m2.
-const MOST: u64 = 2000000;
+// A block that reports more isn't given, in N/m2.
+const GREATEST_PEAK: u64 = 2000000;
 
 fn no_block() -> Block
     ensures { λ r. ⌜ r ≡ noBlock ⌝ }
@@ -114,19 +114,13 @@ fn block_of(totals: Totals, l: u64) -> Block
 
 // A pressure in N/m2, rounded up.
 fn report(scale: u64, pressure: Fraction) -> u64
-    requires { ⌜ scale * aboveZero (pressure .over) < 2 ^ 64 ⌝ }
+    requires { ⌜ scale * aboveZero (pressure .over) < 2 ^ 63 ⌝ }
     ensures { λ n. ⌜ n ≡ reported scale pressure ⌝ }
 {
     whole::rounded_up(
         scale * whole::above_zero(pressure.over),
         whole::above_zero(pressure.under),
     )
-}
-
-fn greater(a: u64, b: u64) -> u64
-    ensures { λ n. ⌜ n ≡ max a b ⌝ }
-{
-    if a < b { b } else { a }
 }
 
 // A block, given or not, and the pressures reported of it.
@@ -136,7 +130,7 @@ fn pressed(scale: u64, block: Block) -> Pressed
 {
     let toe = report(scale, block.toe);
     let heel = report(scale, block.heel);
-    if MOST < greater(toe, heel) {
+    if GREATEST_PEAK < whole::greater(toe, heel) {
         return Pressed {
             block: no_block(),
             toe: 0,

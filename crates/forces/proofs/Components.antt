@@ -1,28 +1,22 @@
 -- The component table as the code fills it: the rows of the rules' table one behind the other, from loads that are small since they fit their wall.
 use mathlib.Core.Path.{_≡_, refl, sym, _∙_}
 use mathlib.Core.Bool.{Bool, true, false, cond}
-use mathlib.Core.List.{List, [], _∷_, _++_, append-assoc, map-append, map-map}
+use mathlib.Core.List.{List, [], _++_, append-assoc, map-append, map-map}
 use Prim.Native.Nat.{ℕ, zero, suc, _+_, _≤_, _<_}
 use native.Mathlib.Omega.{arith}
-use lib.Dec.{T}
 use lib.ListN.{length, getD, length-append, List·getD-append}
 use lib.IntN.{ℤ}
-use Rattle.rules.specs.JobFile.{Wall, Load, mostLoadsOnWall, baseLength, wallHeight, waterHeight, isDown, position, reach, loadFits}
+use Rattle.whole.proofs.Lists.{all-at}
+use Rattle.rules.specs.JobFile.{Wall, Load, mostLoadsOnWall, baseLength, wallHeight, waterHeight, isDown, position, reach}
 use Rattle.rules.specs.Forces.{Component, weightRows, pushRows, loadRow, deadRow, liveRow, loadTable, table}
 use Rattle.rules.proofs.Accepted.{WallWithin, wall-within, base-length, wall-height, LoadWithin, load-within}
-use Rattle.rules.proofs.Examined.{AllFit, Fit, absent-fits}
+use Rattle.rules.proofs.Examined.{Suits, Fit, absent-fits}
 use Rattle.forces.specs.Components.{LoadsSmall, partRow, rowsIn}
 use Rattle.forces.specs.Faces.{rowsOf}
 use Rattle.forces.specs.Sorts.{components}
 use Rattle.forces.proofs.Indexed.{past, joined-length, at-first, at-second, at-third}
 
 -- ---- the loads
-
--- at every index there is a load that fits: behind the last it is an absent one
-fits-at : (wall : Wall) (loads : List Load) → AllFit wall loads → (i : ℕ) → T (loadFits wall (getD loads i []))
-fits-at wall [] all i = absent-fits wall [] refl refl refl refl
-fits-at wall (load ∷ rest) all zero = all .0
-fits-at wall (load ∷ rest) all (suc i) = fits-at wall rest (all .1) i
 
 -- a load that fits its wall is small
 module _ {wall : Wall} (w : WallWithin wall) (load : Load) (l : LoadWithin wall load) where
@@ -46,7 +40,7 @@ pub loads-small : (wall : Wall) (loads : List Load) → Fit wall loads → Loads
 loads-small wall loads f i =
     let load = getD loads i [] in
     let w = wall-within wall (f .wall-fits) in
-    let l = load-within wall load (fits-at wall loads (f .loads-fit) i) in
+    let l = load-within wall load (all-at (Suits wall) [] (absent-fits wall [] refl refl refl refl) loads (f .loads-fit) i) in
     record { numbers = light w load l; place = near w load l }
 
 -- ---- the rows

@@ -114,3 +114,21 @@ either-order wall first second = any-order wall (perm-append-comm first second)
 -- a load of no newtons adds nothing
 pub idle : (wall : Wall) (loads : List Load) (load : Load) → deadLoad load ≡ 0 → liveLoad load ≡ 0 → Alike wall (loads ++ load ∷ []) loads
 idle wall loads load d l = alike wall (loads ++ load ∷ []) loads (λ weight column K. column-idle weight column K wall loads load d l)
+
+-- ---- the demand in one: the totals for two lists of loads joined, in either order, in service and factored
+
+pub record Joined (wall : Wall) (first second : List Load) : Type 0 where
+  pub in-service : Adds (service wall (first ++ second)) (service wall first) (service wall second) (service wall [])
+  pub in-service-turned : Adds (service wall (second ++ first)) (service wall first) (service wall second) (service wall [])
+  pub by-factors : Adds (factored wall (first ++ second)) (factored wall first) (factored wall second) (factored wall [])
+  pub by-factors-turned : Adds (factored wall (second ++ first)) (factored wall first) (factored wall second) (factored wall [])
+
+pub forces-add : (wall : Wall) (first second : List Load) → Joined wall first second
+forces-add wall first second =
+    let turned = either-order wall second first in
+    record {
+      in-service = service-adds wall first second;
+      in-service-turned = rw (turned .service) (service-adds wall first second);
+      by-factors = factored-adds wall first second;
+      by-factors-turned = rw (turned .factored) (factored-adds wall first second);
+    }

@@ -20,10 +20,10 @@ use Rattle.rules.specs.declared.Totals.{Totals}
 use Rattle.rules.specs.JobFile.{Wall, Load, baseLength}
 use Rattle.rules.specs.Answered.{fits}
 use Rattle.rules.specs.Forces.{service, factored, workedForces, forcesOf}
-use Rattle.rules.specs.Bearing.{_over_, overOne, plus, minus, times, Same, Proper, Triangle, HasKind, StraightLine, carried, sixMomentsAs, sixMoments, SameBlock, isNone, isFull, isFromToe, isFromHeel, kindOf, noBlock, ofKind, blockOf, serviceScale, factoredScale, peak, given, blockUnder, serviceBlock, factoredBlock, isGiven, pressedBy, bearingOf}
+use Rattle.rules.specs.Bearing.{_over_, overOne, plus, minus, times, Same, Proper, Triangle, HasKind, StraightLine, carried, sixMomentsAs, sixMoments, SameBlock, isNone, isFull, isFromToe, isFromHeel, kindOf, noBlock, ofKind, blockOf, serviceScale, factoredScale, peak, greatestPeak, given, blockUnder, serviceBlock, factoredBlock, isGiven, pressedBy, bearingOf}
 use Rattle.rules.proofs.Accepted.{wall-within, base-length}
 use Rattle.rules.proofs.Examined.{fit}
-use Rattle.rules.proofs.Sizes.{Sized, service-sized, factored-sized}
+use Rattle.rules.proofs.Sizes.{Sized, heaviest, heaviestFactored, service-sized, factored-sized}
 
 -- ---- what is proved of a block
 
@@ -299,7 +299,7 @@ module _ (R M6 l : ℤ) (hR : pos 0 <ℤ R) (hl : pos 0 <ℤ l) where
 pub given-bears : (scale : ℕ) (R M6 l : ℤ) → pos 0 <ℤ R → pos 0 <ℤ l → M6 <ℤ (pos 6 *ℤ R *ℤ l) → T (isGiven (given scale (blockOf R M6 l)))
     → Bears R M6 l (given scale (blockOf R M6 l))
 unfolding given blockOf ofKind
-given-bears scale R M6 l hR hl less = go (leb (peak scale (blockOf R M6 l)) 2000000)
+given-bears scale R M6 l hR hl less = go (leb (peak scale (blockOf R M6 l)) greatestPeak)
   where
     go : (b : Bool) → T (isGiven (cond b (blockOf R M6 l) noBlock)) → Bears R M6 l (cond b (blockOf R M6 l) noBlock)
     go true t = ⊎-elim (λ h. absurd (rw (kind-makes R M6 l hR hl NoBlock .1 h) at t)) (λ h. block-bears R M6 l hR hl h less) (≤ℤ-or-<ℤ M6 (pos 0))
@@ -315,17 +315,27 @@ module _ (wall : Wall) (loads : List Load) (accepted : T (fits wall loads)) wher
       let long = base-length (wall-within wall (fit wall loads accepted .wall-fits)) in
       given-bears scale (t .vertical) (t .moment) (pos (baseLength wall)) (s .some) (pos-<ℤ .1 (omega arith)) (s .on-base)
 
+  -- R is above 0, and so is N = 6Rl - M6, in service and factored
+  abbrev pub Standing : Totals → Type 0
+  Standing t = (pos 0 <ℤ t .vertical) × (pos 0 <ℤ (pos 6 *ℤ t .vertical *ℤ pos (baseLength wall) -ℤ t .moment))
+
+  pub service-above : Standing (service wall loads)
+  service-above = let s = service-sized wall loads (fit wall loads accepted) in (s .some, sub-above (s .on-base))
+
+  pub factored-above : Standing (factored wall loads)
+  factored-above = let s = factored-sized wall loads (fit wall loads accepted) in (s .some, sub-above (s .on-base))
+
   -- the service block, where it is given, bears the totals in service
   pub service-bears : T (isGiven (serviceBlock wall loads))
       → Bears (service wall loads .vertical) (service wall loads .moment) (pos (baseLength wall)) (serviceBlock wall loads)
   unfolding serviceBlock
-  service-bears = sized-bears serviceScale 6000000 (service wall loads) (service-sized wall loads (fit wall loads accepted))
+  service-bears = sized-bears serviceScale heaviest (service wall loads) (service-sized wall loads (fit wall loads accepted))
 
   -- and the factored block the factored totals
   pub factored-bears : T (isGiven (factoredBlock wall loads))
       → Bears (factored wall loads .vertical) (factored wall loads .moment) (pos (baseLength wall)) (factoredBlock wall loads)
   unfolding factoredBlock
-  factored-bears = sized-bears factoredScale 90000000 (factored wall loads) (factored-sized wall loads (fit wall loads accepted))
+  factored-bears = sized-bears factoredScale heaviestFactored (factored wall loads) (factored-sized wall loads (fit wall loads accepted))
 
 -- ---- what is answered of one wall with its loads
 
@@ -347,4 +357,4 @@ refused-blocks wall loads e = rw e (none serviceScale, none factoredScale)
     either false = refl
 
     none : (scale : ℕ) → pressedBy scale (given scale noBlock) ≡ pressedBy scale noBlock
-    none scale = ap (pressedBy scale) (either (leb (peak scale noBlock) 2000000))
+    none scale = ap (pressedBy scale) (either (leb (peak scale noBlock) greatestPeak))

@@ -5,9 +5,10 @@ use mathlib.Core.List.{List, [], _∷_, _++_, map}
 use Prim.Native.Nat.{ℕ, suc, _+_, _≤_, _<_}
 use native.Mathlib.Omega.{arith}
 use lib.Dec.{T, ltb, leb·zero}
-use lib.ListN.{length, getD, replicate, length-append, length-replicate, getD-replicate}
+use lib.ListN.{length, replicate, length-append, length-replicate, getD-replicate}
 use lib.Ieee.Bits.{is-true}
 use borrow.Author.Tests.{le-ltb, lt-ltb, lt-leb, eq-eqb}
+use Rattle.whole.proofs.Lists.{All, all-joined, all-apart, all-of}
 use Rattle.rules.specs.declared.Answer.{Answer}
 use Rattle.rules.specs.declared.Answer.the-variants.{Worked, WallOutOfRange, LoadOutOfRange}
 use Rattle.rules.specs.JobFile.{File, Wall, Load, Entry, headerBytes, edition, wallCount, mostLoadsOnWall, wallAt, walls, entries, loadsOn, wallFits, direction, position, deadLoad, liveLoad, loadFits, firstUnfit}
@@ -15,9 +16,11 @@ use Rattle.rules.specs.Answered.{isWorked, refusedIf, _orElse_, countsFi
 use Rattle.rules.proofs.AcceptedFile.{loads-join, first-worked, walls-fit, past-wall, past-load, loads-fit, few-from, few-loads}
 
 -- each load fits the wall
+abbrev pub Suits : Wall → Load → Type 0
+Suits wall load = T (loadFits wall load)
+
 abbrev pub AllFit : Wall → List Load → Type 0
-AllFit wall [] = Unit
-AllFit wall (load ∷ rest) = T (loadFits wall load) × AllFit wall rest
+AllFit wall loads = All (Suits wall) loads
 
 pub record Fit (wall : Wall) (loads : List Load) : Type 0 where
   pub wall-fits : T (wallFits wall)
@@ -103,31 +106,16 @@ module _ (wall : Wall) where
   others : {loads these : List Load} → Fit wall loads → AllFit wall these → length these ≤ mostLoadsOnWall → Fit wall these
   others f each less = record { wall-fits = f .wall-fits; loads-fit = each; few = less }
 
-  -- loads that fit at every index fit
-  all-at : (loads : List Load) → ((k : ℕ) → k < length loads → T (loadFits wall (getD loads k []))) → AllFit wall loads
-  all-at [] each = tt
-  all-at (load ∷ rest) each = (each 0 (omega arith), all-at rest (λ k h. each (suc k) (omega arith)))
-
-  -- each of two lists fits where they fit joined
-  parts-fit : (first second : List Load) → AllFit wall (first ++ second) → AllFit wall first × AllFit wall second
-  parts-fit [] second all = (tt, all)
-  parts-fit (load ∷ rest) second all = let h = parts-fit rest second (all .1) in ((all .0, h .0), h .1)
-
-  -- and they fit joined where each fits
-  both-fit : (first second : List Load) → AllFit wall first → AllFit wall second → AllFit wall (first ++ second)
-  both-fit [] second all more = more
-  both-fit (load ∷ rest) second all more = (all .0, both-fit rest second (all .1) more)
-
   -- what fits joined fits in its parts, and in either order
   pub joined : (first second : List Load) → T (fits wall (first ++ second))
       → T (fits wall first) × T (fits wall second) × T (fits wall (second ++ first))
   joined first second t =
       let whole = fit (first ++ second) t in
-      let all = parts-fit first second (whole .loads-fit) in
+      let all = all-apart (Suits wall) first second (whole .loads-fit) in
       let few : length first + length second ≤ mostLoadsOnWall = rw length-append at (whole .few) in (
         fits-of first (others whole (all .0) (omega arith)),
         fits-of second (others whole (all .1) (omega arith)),
-        fits-of (second ++ first) (others whole (both-fit second first (all .1) (all .0)) (rw length-append (omega arith))),
+        fits-of (second ++ first) (others whole (all-joined (Suits wall) second first (all .1) (all .0)) (rw length-append (omega arith))),
       )
 
   -- an absent load, which has nothing but zeros, fits any wall
@@ -138,9 +126,9 @@ module _ (wall : Wall) where
   -- a load that fits, as an absent one does, may stand behind the others as often as there is room
   pub filled : (loads : List Load) (n : ℕ) (load : Load) → T (loadFits wall load) → length loads + n ≤ mostLoadsOnWall
       → Fit wall loads → Fit wall (loads ++ replicate n load)
-  filled loads n load fits room f =
-      let all = all-at (replicate n load) (λ k h. rw (getD-replicate n k load [] (rw length-replicate at h)) fits) in
-      others f (both-fit loads (replicate n load) (f .loads-fit) all) (rw (length-append, length-replicate) room)
+  filled loads n load suits room f =
+      let all = all-of (Suits wall) [] (replicate n load) (λ k h. rw (getD-replicate n k load [] (rw length-replicate at h)) suits) in
+      others f (all-joined (Suits wall) loads (replicate n load) (f .loads-fit) all) (rw (length-append, length-replicate) room)
 
 -- ---- in a file
 
@@ -157,4 +145,4 @@ pub wall-of-file : (file : File) → T (accepted file) → (i : ℕ) → i < wal
 wall-of-file file t i h =
     let wall = wallAt file i in
     let loads = loadsOn (suc i) (entries file) in
-    fits-of wall loads (record { wall-fits = walls-fit file t i h; loads-fit = all-at wall loads (loads-fit file t i h); few = few-loads file t (suc i) })
+    fits-of wall loads (record { wall-fits = walls-fit file t i h; loads-fit = all-of (Suits wall) [] loads (loads-fit file t i h); few = few-loads file t (suc i) })

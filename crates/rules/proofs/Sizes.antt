@@ -14,7 +14,8 @@ use Rattle.whole.specs.Parts.{aboveZero}
 use Rattle.whole.proofs.Rounded.{down-within}
 use Rattle.whole.specs.Sum.{sumTo, sumOf}
 use Rattle.whole.proofs.Integer.{itself, diff-mul, diff-le, *ℤ-assoc, pos-≤ℤ, pos-<ℤ, *ℤ-mono-≤ℤ, sub-nonneg, sub-<ℤ, nonneg-abs, above-most, *ℤ-nonneg, abs-neg, abs-<ℤ, abs-add, abs-weighted}
-use Rattle.whole.proofs.Sums.{sumTo-abs, sumTo-mono, sumTo-nonneg, sumOf-factor, sumOf-zeros, sumOf-joined, sumOf-sumTo, sumOf-less, All, all-joined, all-at}
+use Rattle.whole.proofs.Lists.{All, all-joined, all-at}
+use Rattle.whole.proofs.Sums.{sumTo-abs, sumTo-mono, sumTo-nonneg, sumOf-factor, sumOf-zeros, sumOf-joined, sumOf-sumTo, sumOf-less}
 use Rattle.rules.specs.declared.Totals.{Totals}
 use Rattle.rules.specs.JobFile.{Wall, Load, stemHeight, heelLength, waterHeight, soilDensity, activeCoefficient, restCoefficient, passiveCoefficient, baseLength, wallHeight, isDown, position, greatestLoad, reach, frictionTangent}
 use Rattle.rules.specs.Forces.{squared, saturatedHeight, stemWeight, baseWeight, saturatedWeight, moistWeight, surchargeWeight, surchargePush, moistPush, moistPushBelow, saturatedPush, waterPush, Sort, deadWeight, liveWeight, deadPush, livePush, Component, down, across, weightRows, pushRows, loadRow, deadRow, liveRow, loadTable, table, vertical, horizontal, moment, columnSum, once, tenths, restores, overturns, rests, balances, totals, service, factored, passiveDepth, passive, lastingWeight, frictionUnder, thousandths}
@@ -148,6 +149,13 @@ loads-sound heavy w b loads all =
 -- not negative, and well within 64 bits
 abbrev pub Moderate : ℤ → Type 0
 Moderate z = (pos 0 ≤ℤ z) × (z <ℤ pos 1000000000000000)
+
+-- R of an accepted wall is below this in N, and factored below this in tenths
+abbrev pub heaviest : ℕ
+heaviest = 6000000
+
+abbrev pub heaviestFactored : ℕ
+heaviestFactored = 90000000
 
 -- totals on a base of length l: some weight rests on it, less than `most`, and within it, so that 6Rl - M6 is above 0
 pub record Sized (l : ℤ) (most : ℕ) (t : Totals) : Type 0 where
@@ -290,11 +298,11 @@ module _ (wall : Wall) (loads : List Load) (fit : Fit wall loads) where
   -- ---- service, factored and sliding
 
   -- the totals in service, and factored
-  pub service-sized : Sized (pos (baseLength wall)) 6000000 (service wall loads)
+  pub service-sized : Sized (pos (baseLength wall)) heaviest (service wall loads)
   unfolding service
   service-sized = sized (activeCoefficient wall) (within .active .1) (λ s. 1) 1 (omega arith) (lit≤ tt) (lit< tt)
 
-  pub factored-sized : Sized (pos (baseLength wall)) 90000000 (factored wall loads)
+  pub factored-sized : Sized (pos (baseLength wall)) heaviestFactored (factored wall loads)
   unfolding factored
   factored-sized =
       rw (fun-ext (each (λ s. tenths s ≡ pos (natAbs (tenths s))) (refl, refl, refl, refl)))
@@ -305,7 +313,7 @@ module _ (wall : Wall) (loads : List Load) (fit : Fit wall loads) where
   unfolding lastingWeight service totals
   lasting-nonneg = sub-nonneg (column-mono _ (sound-at (activeCoefficient wall) (within .active .1)) rests once (each _ (omega arith)) vertical)
 
-  pub lasting-below : lastingWeight wall loads <ℤ pos 6000000
+  pub lasting-below : lastingWeight wall loads <ℤ pos heaviest
   unfolding lastingWeight
   lasting-below =
       sub-<ℤ (column-nonneg _ (sound-at (activeCoefficient wall) (within .active .1)) rests (each _ (omega arith)) vertical) (service-sized .vertical)
@@ -321,7 +329,7 @@ pub passive-most : {wall : Wall} → WallWithin wall → passive wall ≤ 140625
 passive-most {wall} w = omega (arith, passive-force wall .within, passive-product w)
 
 -- friction under a weight that is below what R is below
-pub friction-most : {wall : Wall} {weight : ℤ} → WallWithin wall → weight <ℤ pos 6000000 → frictionUnder wall weight ≤ 6000000
+pub friction-most : {wall : Wall} {weight : ℤ} → WallWithin wall → weight <ℤ pos heaviest → frictionUnder wall weight ≤ heaviest
 unfolding frictionUnder
 friction-most {wall} {weight} w h =
     omega (arith, down-within (frictionTangent wall * aboveZero weight) thousandths, mul-le-mul (w .tangent .1) (above-most weight h))

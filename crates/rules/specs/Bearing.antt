@@ -146,9 +146,12 @@ reported scale pressure = roundedUp (scale * aboveZero (pressure .over)) (aboveZ
 unfoldable pub peak : ℕ → Block → ℕ
 peak scale b = max (reported scale (b .toe)) (reported scale (b .heel))
 
--- not given where it reports more than 2000000 N/m2
+-- in N/m2; a block that reports more isn't given
+abbrev pub greatestPeak : ℕ
+greatestPeak = 2000000
+
 unfoldable pub given : ℕ → Block → Block
-given scale b = cond (leb (peak scale b) 2000000) b noBlock
+given scale b = cond (leb (peak scale b) greatestPeak) b noBlock
 
 unfoldable pub blockUnder : ℕ → Totals → Wall → Block
 blockUnder scale t wall = given scale (blockOf (t .vertical) (t .moment) (pos (baseLength wall)))
@@ -169,7 +172,7 @@ isGivenKind NoBlock = false
 abbrev pub isGiven : Block → Bool
 isGiven b = isGivenKind (b .kind)
 
--- ---- the pressures that are reported of it, which are 0 where it isn't given
+-- ---- a block with the pressures that it reports, which are 0 where it isn't given
 
 unfoldable pub pressedBy : ℕ → Block → Pressed
 pressedBy scale b = record { block = b; toe = reported scale (b .toe); heel = reported scale (b .heel) }

@@ -1,3 +1,4 @@
 pub mod Integer
+pub mod Lists
 pub mod Rounded
 pub mod Sums

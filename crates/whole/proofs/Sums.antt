@@ -154,20 +154,3 @@ module _ {A : Type 0} where
   pub sumOf-less : (f g : A → ℤ) (d : A) (xs : List A) (k : ℕ) → ((i : ℕ) → f (getD xs i d) ≤ℤ g (getD xs i d)) → k < length xs
       → f (getD xs k d) <ℤ g (getD xs k d) → sumOf f xs <ℤ sumOf g xs
   sumOf-less f g d xs k h below less = rw (sumOf-sumTo f d xs, sumOf-sumTo g d xs) (sumTo-less _ _ _ k (λ i _. h i) below less)
-
--- ---- what every element of a list has
-abbrev pub All : {A : Type 0} → (A → Type 0) → List A → Type 0
-All P [] = Unit
-All P (x ∷ xs) = P x × All P xs
-
-module _ {A : Type 0} (P : A → Type 0) where
-  -- every element of two lists joined has it too
-  pub all-joined : (xs ys : List A) → All P xs → All P ys → All P (xs ++ ys)
-  all-joined [] ys a b = b
-  all-joined (x ∷ xs) ys a b = (a .0, all-joined xs ys (a .1) b)
-
-  -- and what stands at any index, where past the end stands something that has it
-  pub all-at : (d : A) → P d → (xs : List A) → All P xs → (i : ℕ) → P (getD xs i d)
-  all-at d p [] a i = p
-  all-at d p (x ∷ xs) a zero = a .0
-  all-at d p (x ∷ xs) a (suc i) = all-at d p xs (a .1) i

@@ -1,6 +1,6 @@
-// Whole numbers: division, rounded up, down and to the nearest, and what lies above 0.
+// Whole numbers: division, rounded up, down and to the nearest, the greater of two, and what lies above another or above 0.
 ghost use mathlib.Core.Path.{_≡_};
-ghost use Prim.Native.Nat.{_-_};
+ghost use Prim.Native.Nat.{_-_, max};
 ghost use Rattle.whole.specs.Parts.{aboveZero};
 ghost use Rattle.whole.specs.Rounding.{roundedUp, roundedDown, roundedNearest};
 
@@ -35,6 +35,13 @@ pub fn rounded_nearest(a: u64, b: u64) -> u64
     let whole = a / b;
     let rest = a % b;
     if rest >= b - rest { whole + 1 } else { whole }
+}
+
+// The greater of two.
+pub fn greater(a: u64, b: u64) -> u64
+    ensures { λ r. ⌜ r ≡ max a b ⌝ }
+{
+    if a < b { b } else { a }
 }
 
 // How far a lies above b; 0 where it doesn't.

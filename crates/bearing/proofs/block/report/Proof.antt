@@ -1,4 +1,5 @@
 -- `bearing::block::report` meets its contract: the scaled figure fits, and the rest is the rounding.
+use native.Mathlib.Omega.{arith}
 use borrow.Author.Needs.{needs}
 use mir.Syntax.{w64}
 use mir.ValLaws.{toZ-ofZ}
@@ -11,7 +12,7 @@ above-zero-requires c κs = search needs
 
 mul-rounded-up : tie.Need-mul-rounded-up
 mul-rounded-up c =
-    record { fits = rw (c .above-zero .ensures, toZ-ofZ w64 _ (record { sfits = c .before .struct-told .given .0 .1 })) (c .before .before .pre) }
+    record { fits = rw (c .above-zero .ensures, toZ-ofZ w64 _ (record { sfits = c .before .struct-told .given .0 .1 })) (let small = c .before .before .pre in omega arith) }
 
 above-zero-requires-2 : tie.Need-above-zero-requires-2
 above-zero-requires-2 c κs = search needs
