@@ -1,22 +1,22 @@
 -- What is reported of a block: its scaled figures fit, and the block is given or not by the greater of its pressures.
 use mathlib.Core.Path.{_≡_, refl}
-use mathlib.Core.Bool.{Bool, true, false}
 use Prim.Native.Nat.{ℕ, zero, suc, _*_, _≤_, _<_, _^_, max}
 use native.Mathlib.Nat.{mul-le-mul, mul-zero}
 use native.Mathlib.Omega.{arith}
-use borrow.Author.Tests.{lt-leb, le-leb, ltb-true, ltb-false, leb-true, leb-false}
-use lib.Dec.{ltb, leb}
+use borrow.Author.Tests.{lt-leb, le-leb}
 use lib.IntN.{ℤ, pos, negsuc}
 use lib.Signed.{_≤ℤ_}
 use Rattle.whole.specs.Parts.{aboveZero}
 use Rattle.whole.specs.Rounding.{roundedUp}
-use Rattle.whole.proofs.Integer.{pos-≤ℤ, pos-<ℤ, nonneg-aboveZero}
-use Rattle.rules.specs.declared.Kind.the-variants.{Full, FromToe, FromHeel}
+use Rattle.whole.proofs.Integer.{pos-≤ℤ, nonneg-aboveZero}
+use Rattle.rules.specs.declared.Kind.{Kind}
+use Rattle.rules.specs.declared.Kind.the-variants.{Full, FromToe, FromHeel, NoBlock}
 use Rattle.rules.specs.declared.Block.{Block}
 use Rattle.rules.specs.Bearing.{isNone, kindOf, noBlock, ofKind, blockOf, overOne, reported, peak, greatestPeak, given, pressedBy}
+use Rattle.rules.proofs.Carries.{Makes}
 use Rattle.bearing.specs.Within.{Scaled, Reportable}
 use Rattle.bearing.proofs.Bounds.{bounds}
-use Rattle.bearing.proofs.Cases.{none, made, full-figures, heel-figures}
+use Rattle.bearing.proofs.Cases.{none, its-case, full-figures, toe-figures, heel-figures, none-figures}
 
 -- the block is made of what lies above 0: where M6 doesn't, there is none
 pub whole-block : (R M6 : ℤ) (l : ℕ) → pos 0 ≤ℤ R → blockOf R M6 (pos l) ≡ blockOf (pos (aboveZero R)) (pos (aboveZero M6)) (pos l)
@@ -26,28 +26,29 @@ whole-block R (negsuc m) l h = refl
 
 -- ---- the scaled figures
 
--- it is a block of one of the three kinds, whose figures are no more than 4Rl or 4R^2
-module _ (scale R M6 l : ℕ) (some : 0 < M6) (s : Scaled scale R M6 l) where
+-- where there is no block they are 0
+nothing : (scale : ℕ) → Reportable scale noBlock
+nothing scale = record { toe = omega arith; heel = omega arith }
+
+-- whatever its kind is, they are no more than 4Rl or 4R^2
+module _ (scale R M6 l : ℕ) (s : Scaled scale R M6 l) where
   along : (n : ℕ) → n ≤ 4 * R * l → scale * n < 2 ^ 63
   along n h = omega (arith, bounds (s .within), mul-le-mul (s .small) h)
 
-  beyond : 2 * R * l ≤ M6 → (test : Bool) → leb M6 (4 * R * l) ≡ test → Reportable scale (blockOf (pos R) (pos M6) (pos l))
-  beyond low true e =
-      let high = leb-true M6 (4 * R * l) e in
-      rw (made R M6 l (s .within) Full (pos-≤ℤ .1 low, pos-≤ℤ .1 high), full-figures R M6 l low high) (record { toe = along _ (omega arith); heel = along _ (omega arith) })
-  beyond low false e =
-      rw (made R M6 l (s .within) FromHeel (pos-<ℤ .1 (leb-false M6 (4 * R * l) e)), heel-figures R M6 l (s .within .on-base)) (record { toe = omega arith; heel = s .square })
+  of-kind : (k : Kind) → Makes k (pos R) (pos M6) (pos l) → Reportable scale (ofKind k (pos R) (pos M6) (pos l))
+  of-kind Full h =
+      rw (full-figures R M6 l (pos-≤ℤ .0 (h .0)) (pos-≤ℤ .0 (h .1)))
+      (record { toe = along _ (omega arith); heel = along _ (omega (arith, pos-≤ℤ .0 (h .1))) })
+  of-kind FromToe h = rw (toe-figures R M6 l) (record { toe = s .square; heel = omega arith })
+  of-kind FromHeel h = rw (heel-figures R M6 l (s .within .on-base)) (record { toe = omega arith; heel = s .square })
+  of-kind NoBlock h = rw (none-figures R M6 l) (nothing scale)
 
-  one-kind : (test : Bool) → ltb M6 (2 * R * l) ≡ test → Reportable scale (blockOf (pos R) (pos M6) (pos l))
-  unfolding ofKind
-  one-kind true e = rw (made R M6 l (s .within) FromToe (pos-<ℤ .1 some, pos-<ℤ .1 (ltb-true M6 (2 * R * l) e))) (record { toe = s .square; heel = omega arith })
-  one-kind false e = beyond (ltb-false M6 (2 * R * l) e) (leb M6 (4 * R * l)) refl
-
--- the scaled figures of any block fit
+-- those of any block fit
 fits : (scale R M6 l : ℕ) → (0 < M6 → Scaled scale R M6 l) → Reportable scale (blockOf (pos R) (pos M6) (pos l))
-fits scale R zero l s = rw (none R 0 l refl) (record { toe = omega arith; heel = omega arith })
+unfolding blockOf
+fits scale R zero l s = rw (none R 0 l refl) (nothing scale)
 fits scale R (suc m) l s =
-    let some : 0 < suc m = omega arith in one-kind scale R (suc m) l some (s some) (ltb (suc m) (2 * R * l)) refl
+    let w = s (omega arith) in of-kind scale R (suc m) l w (kindOf (pos R) (pos (suc m)) (pos l)) (its-case R (suc m) l (w .within))
 
 pub reportable : (scale l : ℕ) (R M6 : ℤ) → pos 0 ≤ℤ R → (0 < aboveZero M6 → Scaled scale (aboveZero R) (aboveZero M6) l)
     → Reportable scale (blockOf R M6 (pos l))

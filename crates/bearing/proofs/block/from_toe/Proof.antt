@@ -1,8 +1,9 @@
 -- `bearing::block::from_toe` meets its contract: its figures are whole numbers.
+use mathlib.Core.Path.{sym}
 use native.Mathlib.Omega.{arith}
 use borrow.Author.Needs.{needs}
-use Rattle.rules.specs.Bearing.{ofKind}
 use Rattle.bearing.proofs.Bounds.{bounds}
+use Rattle.bearing.proofs.Cases.{toe-figures}
 use Rattle.bearing.proofs.block.from_toe.Statement.{statement}
 use Rattle.bearing.proofs.block.from_toe.Tie as tie
 
@@ -25,8 +26,7 @@ over-requires-3 : tie.Need-over-requires-3
 over-requires-3 c κs = let b = bounds (c .before .before .pre) in (omega (arith, c .before .before .pre), omega (arith, c .before .before .pre))
 
 returns : tie.Need-returns
-unfolding ofKind
-returns c = rw (c .before .before .over .ensures, c .before .over2 .ensures, c .over3 .ensures)
+returns c = rw (c .before .before .over .ensures, c .before .over2 .ensures, c .over3 .ensures) (sym (toe-figures _ _ _))
 
 pub from-toe-spec : {M : Type 1} → statement M
 from-toe-spec =
