@@ -6,7 +6,7 @@ use Prim.Native.Nat.{ℕ, zero, suc, _+_, _≤_, _<_}
 use native.Mathlib.Omega.{arith}
 use lib.ListN.{length, getD, length-append, List·getD-append}
 use lib.IntN.{ℤ}
-use Rattle.whole.proofs.Lists.{all-at}
+use Rattle.whole.proofs.Lists.{all-at, of-either}
 use Rattle.rules.specs.JobFile.{Wall, Load, mostLoadsOnWall, baseLength, wallHeight, waterHeight, isDown, position, reach}
 use Rattle.rules.specs.Forces.{Component, weightRows, pushRows, loadRow, deadRow, liveRow, loadTable, table}
 use Rattle.rules.proofs.Accepted.{WallWithin, wall-within, base-length, wall-height, LoadWithin, load-within}
@@ -45,16 +45,11 @@ loads-small wall loads f i =
 
 -- ---- the rows
 
--- a row is chosen with its component
-row-of : (b : Bool) (x y : Component) → cond b x y .row ≡ cond b (x .row) (y .row)
-row-of true x y = refl
-row-of false x y = refl
-
 -- the weights, the pushes and the parts of the loads, one behind the other, are the rows of the rules' table
 pub table-rows : (k : ℕ) (wall : Wall) (loads : List Load) {h hw : ℕ} {weights pushes : List (List ℤ)} → h ≡ wallHeight wall → hw ≡ waterHeight wall
     → weights ≡ rowsOf (weightRows wall) → pushes ≡ rowsOf (pushRows wall k h hw) → rowsIn weights pushes loads ≡ rowsOf (table k wall loads)
 unfolding table loadTable deadRow liveRow loadRow rowsIn partRow
-table-rows k wall loads high wet e f = rw (e, f, high, wet) (simp (map-append, map-map, row-of, append-assoc))
+table-rows k wall loads high wet e f = rw (e, f, high, wet) (simp (map-append, map-map, of-either (λ (c : Component). c .row), append-assoc))
 
 -- how many weights, pushes and loads there are
 pub record Counted (weights pushes : List (List ℤ)) (loads : List Load) : Type 0 where

@@ -1,6 +1,6 @@
 -- The sums that the code makes are those of the rules: its lists of rows, sorts and weights, and its bounds. Assumes nothing.
 use mathlib.Core.Path.{_≡_, refl, sym, _∙_}
-use mathlib.Core.Bool.{Bool, true, false, cond}
+use mathlib.Core.Bool.{Bool}
 use mathlib.Core.List.{List, [], _∷_, map, map-append}
 use Prim.Native.Nat.{ℕ, zero, suc, _*_, _≤_, _<_}
 use native.Mathlib.Omega.{arith}
@@ -9,10 +9,12 @@ use lib.IntN.{ℤ, pos, natAbs, _*ℤ_}
 use lib.ListN.{length, getD, length-map, List·getD-map}
 use Rattle.whole.specs.Sum.{sumTo}
 use Rattle.whole.proofs.Integer.{abs-weighted}
+use Rattle.whole.proofs.Lists.{of-either}
 use Rattle.whole.proofs.Sums.{sumTo-same, sumTo-abs, sumOf-sumTo}
 use Rattle.rules.specs.JobFile.{Wall, Load, mostLoadsOnWall, isDown, deadLoad, liveLoad}
 use Rattle.rules.specs.Forces.{Sort, deadWeight, liveWeight, deadPush, livePush, Component, weightRows, pushRows, loadRow, deadRow, liveRow, loadTable, table, vertical, horizontal, moment, columnSum, restores, overturns, balances, totals}
 use Rattle.rules.proofs.Accepted.{both, every}
+use Rattle.rules.proofs.Sizes.{none}
 use Rattle.forces.specs.Faces.{rowsOf}
 use Rattle.forces.specs.Sorts.{components, placeOf, weightsOf, firstSorts, byWay, sortsOf, weighted, weightedSum, Small, Light, AllLight, totalWeights, totalsBy}
 use Rattle.forces.proofs.Indexed.{joined-length}
@@ -23,10 +25,6 @@ place c = placeOf (c .sort)
 
 abbrev pub placesOf : List Component → List ℕ
 placesOf rows = map place rows
-
--- what is read behind the last component
-abbrev none : Component
-none = record { sort = deadWeight; row = [] }
 
 place-at : (rows : List Component) (i : ℕ) → getD (placesOf rows) i 0 ≡ place (getD rows i none)
 place-at rows i = List·getD-map place rows i none
@@ -63,11 +61,7 @@ by-way : (heavy push : Sort) (part : Load → ℕ) (loads : List Load)
     → placesOf (map (loadRow heavy push part) loads) ≡ map (byWay (placeOf heavy) (placeOf push)) loads
 unfolding loadRow
 by-way heavy push part [] = refl
-by-way heavy push part (load ∷ loads) = cc (way (isDown load) _ _, by-way heavy push part loads)
-  where
-    way : (b : Bool) (x y : Component) → place (cond b x y) ≡ cond b (place x) (place y)
-    way true x y = refl
-    way false x y = refl
+by-way heavy push part (load ∷ loads) = cc (of-either place (isDown load) _ _, by-way heavy push part loads)
 
 -- the table's sorts are the loads' alone
 pub sorts-of-table : (K : ℕ) (wall : Wall) (loads : List Load) → placesOf (table K wall loads) ≡ sortsOf loads
@@ -117,8 +111,3 @@ module _ {rows : List (List ℤ)} {sorts : List ℕ} {weights : List ℤ} (small
   sum-within n =
       sumTo-abs (weighted rows sorts weights column) n
       (λ i h. abs-weighted (getD weights (getD sorts i 0) (pos 0)) (getD (getD rows i []) column (pos 0)) (light .at-most (getD sorts i 0)) (small .cells i column))
-
-  -- and of all
-  pub whole-sum-within : natAbs (weightedSum rows sorts weights column) ≤ 26 * 16 * 100000000000
-  unfolding weightedSum
-  whole-sum-within = sum-within components

@@ -4,6 +4,7 @@ mod rows;
 mod sliding;
 mod sums;
 mod table;
+mod units;
 mod weights;
 
 use record::ACTIVE_COEFFICIENT;

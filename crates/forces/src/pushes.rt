@@ -1,5 +1,9 @@
 // Document 01, "Forces": the pushes at a coefficient K, each rounded up, on a face of height h with water up to hw above its foot. The stem
 // has a face of its own, so the heights are given.
+use crate::units::PER_AREA;
+use crate::units::PER_SQUARE_AT_K;
+use crate::units::PER_VOLUME;
+use crate::units::THOUSANDTHS;
 use record::MOIST_DENSITY;
 use record::SATURATED_DENSITY;
 use record::SURCHARGE;
@@ -15,16 +19,13 @@ ghost use Rattle.forces.specs.Faces.{Face};
 // What water weighs, in 10 N/m3.
 const WATER_DENSITY: u64 = 981;
 
-// Thousandths of mm x (10 N/m2) on a metre's run to the newton.
-const PER_AREA: u64 = 1000 * 100;
+// With a coefficient, an area and a volume.
+const PER_AREA_AT_K: u64 = THOUSANDTHS * PER_AREA;
 
-// Thousandths of mm x mm x (10 N/m3) on a metre's run to the newton; and where the square is yet to be halved.
-const PER_VOLUME: u64 = 1000 * 100000;
+const PER_VOLUME_AT_K: u64 = THOUSANDTHS * PER_VOLUME;
 
+// A squared height that is yet to be halved, of water, which has no coefficient.
 const PER_SQUARE: u64 = 2 * PER_VOLUME;
-
-// The same of water, which has no coefficient.
-const PER_SQUARE_OF_WATER: u64 = 2 * 100000;
 
 // Every push is rounded up.
 fn push_of(product: u64, per: u64) -> u64
@@ -37,7 +38,7 @@ pub fn surcharge_push(wall: Wall, k: u64, h: u64) -> u64
     requires { ⌜ T (wallFits wall) × Face k h 0 ⌝ }
     ensures { λ r. ⌜ r ≡ surchargePush wall k h ⌝ }
 {
-    push_of(k * record::field(wall, SURCHARGE) * h, PER_AREA)
+    push_of(k * record::field(wall, SURCHARGE) * h, PER_AREA_AT_K)
 }
 
 // Moist fill above the water.
@@ -48,7 +49,7 @@ pub fn moist_push(wall: Wall, k: u64, h: u64, hw: u64) -> u64
     let above = h - hw;
     push_of(
         k * record::field(wall, MOIST_DENSITY) * (above * above),
-        PER_SQUARE,
+        PER_SQUARE_AT_K,
     )
 }
 
@@ -60,7 +61,7 @@ pub fn moist_push_below(wall: Wall, k: u64, h: u64, hw: u64) -> u64
     let above = h - hw;
     push_of(
         k * record::field(wall, MOIST_DENSITY) * above * hw,
-        PER_VOLUME,
+        PER_VOLUME_AT_K,
     )
 }
 
@@ -70,12 +71,12 @@ pub fn saturated_push(wall: Wall, k: u64, hw: u64) -> u64
     ensures { λ r. ⌜ r ≡ saturatedPush wall k hw ⌝ }
 {
     let buoyant = record::field(wall, SATURATED_DENSITY) - WATER_DENSITY;
-    push_of(k * buoyant * (hw * hw), PER_SQUARE)
+    push_of(k * buoyant * (hw * hw), PER_SQUARE_AT_K)
 }
 
 pub fn water_push(hw: u64) -> u64
     requires { ⌜ hw ≤ 9500 ⌝ }
     ensures { λ r. ⌜ r ≡ waterPush hw ⌝ }
 {
-    push_of(WATER_DENSITY * (hw * hw), PER_SQUARE_OF_WATER)
+    push_of(WATER_DENSITY * (hw * hw), PER_SQUARE)
 }

@@ -1,4 +1,6 @@
 // Document 01, "Forces": what holds a wall that fits against sliding, in service figures. Passive force and friction are rounded down.
+use crate::units::PER_SQUARE_AT_K;
+use crate::units::THOUSANDTHS;
 use record::BASE_THICKNESS;
 use record::COVER_IN_FRONT;
 use record::EXCAVATION;
@@ -14,17 +16,12 @@ ghost use lib.IntN.{pos};
 ghost use lib.Signed.{_<ℤ_};
 ghost use Rattle.rules.specs.JobFile.{wallFits};
 ghost use Rattle.rules.specs.Forces.{passive, frictionUnder, slidingUnder};
-
-// Thousandths of mm x mm x (10 N/m3) on a metre's run to the newton, where the square is yet to be halved.
-const PER_SQUARE: u64 = 2 * 1000 * 100000;
-
-// A tangent is in thousandths.
-const THOUSANDTHS: u64 = 1000;
+ghost use Rattle.rules.proofs.Sizes.{heaviest};
 
 const PROPPED: u64 = 1;
 
 // The passive force on the depth that is left in front of the wall.
-pub fn passive_force(wall: Wall) -> u64
+fn passive_force(wall: Wall) -> u64
     requires { ⌜ T (wallFits wall) ⌝ }
     ensures { λ r. ⌜ r ≡ passive wall ⌝ }
 {
@@ -34,13 +31,13 @@ pub fn passive_force(wall: Wall) -> u64
         record::field(wall, PASSIVE_COEFFICIENT)
             * record::field(wall, SOIL_DENSITY)
             * (depth * depth),
-        PER_SQUARE,
+        PER_SQUARE_AT_K,
     )
 }
 
 // The friction under what lasts of R.
-pub fn friction_under(wall: Wall, lasting: i64) -> u64
-    requires { ⌜ T (wallFits wall) × (lasting <ℤ pos 6000000) ⌝ }
+fn friction_under(wall: Wall, lasting: i64) -> u64
+    requires { ⌜ T (wallFits wall) × (lasting <ℤ pos heaviest) ⌝ }
     ensures { λ r. ⌜ r ≡ frictionUnder wall lasting ⌝ }
 {
     whole::rounded_down(
@@ -51,7 +48,7 @@ pub fn friction_under(wall: Wall, lasting: i64) -> u64
 
 // An unpropped wall slides where less holds it than pushes it; a propped one leaves the rest to its prop.
 pub fn held(wall: Wall, lasting: i64, horizontal: i64) -> Sliding
-    requires { ⌜ T (wallFits wall) × (lasting <ℤ pos 6000000) ⌝ }
+    requires { ⌜ T (wallFits wall) × (lasting <ℤ pos heaviest) ⌝ }
     ensures { λ r. ⌜ r ≡ slidingUnder wall lasting horizontal ⌝ }
 {
     let passive = passive_force(wall);

@@ -20,20 +20,37 @@ const DEAD_PUSH: usize = 2;
 
 const LIVE_PUSH: usize = 3;
 
+const SORT_COUNT: usize = 4;
+
 pub type Sorts = [usize; COMPONENTS];
 
-pub type Weights = [i64; 4];
+pub type Weights = [i64; SORT_COUNT];
 
-// What counts, what restores, what overturns, and what M6 takes.
-pub type TotalWeights = [Weights; 4];
+// A total's place among the lists of weights: what counts, what restores, what overturns, and what M6 takes.
+const COUNTED: usize = 0;
+
+const RESTORED: usize = 1;
+
+const OVERTURNED: usize = 2;
+
+const BALANCED: usize = 3;
+
+const LIST_COUNT: usize = 4;
+
+pub type TotalWeights = [Weights; LIST_COUNT];
 
 pub const SERVICE: TotalWeights = [[1, 1, 1, 1], [1, 0, 0, 0], [0, 0, 1, 1], [1, 1, -1, -1]];
 
+// 1.4 and 1.6, in tenths.
+const DEAD_FACTOR: i64 = 14;
+
+const LIVE_FACTOR: i64 = 16;
+
 pub const FACTORED: TotalWeights = [
-    [14, 16, 14, 16],
-    [14, 0, 0, 0],
-    [0, 0, 14, 16],
-    [14, 16, -14, -16],
+    [DEAD_FACTOR, LIVE_FACTOR, DEAD_FACTOR, LIVE_FACTOR],
+    [DEAD_FACTOR, 0, 0, 0],
+    [0, 0, DEAD_FACTOR, LIVE_FACTOR],
+    [DEAD_FACTOR, LIVE_FACTOR, -DEAD_FACTOR, -LIVE_FACTOR],
 ];
 
 // Surcharge and live loads down, which rest on the wall.
@@ -108,10 +125,10 @@ pub fn totals_by(table: Table, sorts: Sorts, weights: TotalWeights) -> Totals
     ensures { λ r. ⌜ r ≡ totalsBy table sorts weights ⌝ }
 {
     Totals {
-        vertical: column_sum(table, sorts, weights[0], VERTICAL),
-        horizontal: column_sum(table, sorts, weights[0], HORIZONTAL),
-        restoring: column_sum(table, sorts, weights[1], MOMENT),
-        overturning: column_sum(table, sorts, weights[2], MOMENT),
-        moment: column_sum(table, sorts, weights[3], MOMENT),
+        vertical: column_sum(table, sorts, weights[COUNTED], VERTICAL),
+        horizontal: column_sum(table, sorts, weights[COUNTED], HORIZONTAL),
+        restoring: column_sum(table, sorts, weights[RESTORED], MOMENT),
+        overturning: column_sum(table, sorts, weights[OVERTURNED], MOMENT),
+        moment: column_sum(table, sorts, weights[BALANCED], MOMENT),
     }
 }

@@ -1,4 +1,6 @@
 // Document 01, "Forces": the weights of a wall that fits, each rounded to the nearest newton.
+use crate::units::PER_AREA;
+use crate::units::PER_VOLUME;
 use record::BASE_DENSITY;
 use record::BASE_THICKNESS;
 use record::HEEL_LENGTH;
@@ -17,12 +19,6 @@ ghost use Rattle.whole.specs.Rounding.{roundedNearest};
 ghost use Rattle.rules.specs.JobFile.{wallFits};
 ghost use Rattle.rules.specs.Forces.{perVolume, saturatedHeight, stemWeight, baseWeight, saturatedWeight, moistWeight, surchargeWeight};
 
-// mm x mm x (10 N/m3) on a metre's run: 100000 to the newton.
-const PER_VOLUME: u64 = 100000;
-
-// mm x (10 N/m2) on a metre's run: 100 to the newton.
-const PER_AREA: u64 = 100;
-
 // The weight of what has two sides in mm and a density, all three small enough to multiply.
 fn slab_weight(a: u64, b: u64, density: u64) -> u64
     requires { ⌜ (a ≤ 20000) × (b ≤ 20000) × (density ≤ 20000) ⌝ }
@@ -32,7 +28,7 @@ fn slab_weight(a: u64, b: u64, density: u64) -> u64
 }
 
 // hsat: how high the water stands in the fill over the heel.
-pub fn saturated_height(wall: Wall) -> u64
+fn saturated_height(wall: Wall) -> u64
     ensures { λ r. ⌜ r ≡ saturatedHeight wall ⌝ }
 {
     whole::excess(

@@ -1,7 +1,7 @@
 -- The places of a wall's loads: a row is filled up with zeros, an entry's number goes into the first place that is free, and what is read at a wall's
 -- row are that wall's loads. The laws that the loops cite, and the theorem for the layers above.
 use mathlib.Core.Path.{_≡_, refl, sym, ap, ap₂, _∙_}
-use mathlib.Core.Bool.{Bool, true, false, cond}
+use mathlib.Core.Bool.{Bool, true, false}
 use mathlib.Core.List.{List, [], _∷_, _++_, map, append-nil}
 use Prim.Native.Nat.{ℕ, zero, suc, _+_, _-_, _≤_, _<_}
 use native.Mathlib.Omega.{arith}
@@ -9,6 +9,7 @@ use lib.Dec.{T, eqb}
 use lib.ListN.{length, getD, set, replicate, length-set}
 use lib.Seq.{ext-getD, getD-set-same, getD-set-other}
 use borrow.Author.Tests.{eqb-true, eqb-false, eq-eqb, ne-eqb}
+use Rattle.whole.proofs.Lists.{of-either}
 use Rattle.rules.specs.JobFile.{File, Load, Entry, wallCount, mostWalls, mostLoadsOnWall, wallAt, entryAt, entries, wallOf, loadOf, loadsOn, numbersOn, loadFits}
 use Rattle.rules.specs.Answered.{accepted}
 use Rattle.rules.proofs.AcceptedFile.{records-length, record-at, wall-count, loads-fit, few-loads}
@@ -38,11 +39,6 @@ map-padded {B = B} f none (suc n) [] = ap (λ (rest : List B). f none ∷ rest) 
 map-padded {B = B} f none (suc n) (x ∷ xs) = ap (λ (rest : List B). f x ∷ rest) (map-padded f none n xs)
 
 -- ---- the numbers of a wall's loads
-
--- what is made of one of two is one of what is made of them
-of-either : {A B : Type 0} (f : A → B) (b : Bool) (x y : A) → f (cond b x y) ≡ cond b (f x) (f y)
-of-either f true x y = refl
-of-either f false x y = refl
 
 -- where the first entry has a number higher by one, each has
 numbers-up : (n first : ℕ) (es : List Entry) → numbersOn n (suc first) es ≡ map suc (numbersOn n first es)

@@ -1,4 +1,6 @@
--- What every element of a list has. Assumes nothing.
+-- What every element of a list has; and what is made of one of two. Assumes nothing.
+use mathlib.Core.Path.{_≡_, refl}
+use mathlib.Core.Bool.{Bool, true, false, cond}
 use mathlib.Core.List.{List, [], _∷_, _++_}
 use Prim.Native.Nat.{ℕ, zero, suc, _<_}
 use native.Mathlib.Omega.{arith}
@@ -28,3 +30,8 @@ module _ {A : Type 0} (P : A → Type 0) where
   pub all-of : (d : A) (xs : List A) → ((i : ℕ) → i < length xs → P (getD xs i d)) → All P xs
   all-of d [] each = tt
   all-of d (x ∷ xs) each = (each 0 (omega arith), all-of d xs (λ i h. each (suc i) (omega arith)))
+
+-- what is made of one of two is one of what is made of them
+pub of-either : {A B : Type 0} (f : A → B) (b : Bool) (x y : A) → f (cond b x y) ≡ cond b (f x) (f y)
+of-either f true x y = refl
+of-either f false x y = refl

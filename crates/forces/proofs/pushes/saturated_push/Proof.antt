@@ -14,7 +14,7 @@ sub-buoyant : tie.Need-sub-buoyant
 sub-buoyant c = omega (arith, wall-within _ (c .before .pre .0))
 
 mul-push-of : tie.Need-mul-push-of
-mul-push-of c = two-fit (omega arith)
+mul-push-of c = two-fit (omega (arith, wall-within _ (c .before .pre .0)))
 
 mul-push-of-2 : tie.Need-mul-push-of-2
 mul-push-of-2 c = two-fit (omega arith)

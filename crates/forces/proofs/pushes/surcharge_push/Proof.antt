@@ -11,7 +11,7 @@ field-requires : tie.Need-field-requires
 field-requires c κs = search needs
 
 mul-push-of : tie.Need-mul-push-of
-mul-push-of c = two-fit (omega arith)
+mul-push-of c = two-fit (omega (arith, wall-within _ (c .before .pre .0)))
 
 mul-push-of-2 : tie.Need-mul-push-of-2
 mul-push-of-2 c = three-fit (omega (arith, wall-within _ (c .before .pre .0)))

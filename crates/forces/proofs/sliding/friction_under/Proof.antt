@@ -5,6 +5,7 @@ use borrow.Author.Needs.{needs}
 use mir.Facts.{toZ-ofZ}
 use Rattle.whole.specs.Parts.{aboveZero}
 use Rattle.rules.specs.Forces.{frictionUnder}
+use Rattle.rules.proofs.Accepted.{wall-within}
 use Rattle.forces.proofs.Factors.{two-fit}
 use Rattle.whole.proofs.Integer.{above-most}
 use Rattle.forces.proofs.sliding.friction_under.Statement.{statement}
@@ -21,7 +22,9 @@ above-zero-requires : tie.Need-above-zero-requires
 above-zero-requires c κs = search needs
 
 mul-rounded-down : tie.Need-mul-rounded-down
-mul-rounded-down c = two-fit (omega (arith, lasting-is c, above-most _ (c .before .before .pre .1)))
+mul-rounded-down c =
+    let start = c .before .before in
+    two-fit (omega (arith, lasting-is c, above-most _ (start .pre .1), wall-within _ (start .pre .0)))
 
 rounded-down-requires : tie.Need-rounded-down-requires
 rounded-down-requires c κs = search needs

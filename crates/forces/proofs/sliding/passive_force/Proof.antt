@@ -29,7 +29,7 @@ field-requires-5 : tie.Need-field-requires-5
 field-requires-5 c κs = search needs
 
 mul-rounded-down : tie.Need-mul-rounded-down
-mul-rounded-down c = two-fit (omega arith)
+mul-rounded-down c = two-fit (omega (arith, wall-within _ (c .before .before .before .before .before .before .pre)))
 
 mul-rounded-down-2 : tie.Need-mul-rounded-down-2
 mul-rounded-down-2 c = two-fit (omega (arith, wall-within _ (c .before .before .before .before .before .before .pre)))

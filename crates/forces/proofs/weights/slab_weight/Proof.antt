@@ -1,16 +1,15 @@
--- `forces::weights::slab_weight` meets its contract. Its bounds are multiplied.
-use native.Mathlib.Nat.{mul-le-mul}
+-- `forces::weights::slab_weight` meets its contract. Three small factors multiply.
 use native.Mathlib.Omega.{arith}
 use borrow.Author.Needs.{needs}
-use Rattle.rules.proofs.Sizes.{product}
+use Rattle.forces.proofs.Factors.{two-fit, three-fit}
 use Rattle.forces.proofs.weights.slab_weight.Statement.{statement}
 use Rattle.forces.proofs.weights.slab_weight.Tie as tie
 
 mul-rounded-nearest : tie.Need-mul-rounded-nearest
-mul-rounded-nearest c = omega (arith, mul-le-mul (c .pre .0) (c .pre .1))
+mul-rounded-nearest c = two-fit (omega arith)
 
 mul-rounded-nearest-2 : tie.Need-mul-rounded-nearest-2
-mul-rounded-nearest-2 c = omega (arith, product (c .pre .0) (c .pre .1) (c .pre .2))
+mul-rounded-nearest-2 c = three-fit (omega arith)
 
 rounded-nearest-requires : tie.Need-rounded-nearest-requires
 rounded-nearest-requires c κs = search needs

@@ -1,8 +1,9 @@
--- `forces::weights::surcharge_weight` meets its contract. Two fields of 32 bits multiply.
-use native.Mathlib.Nat.{mul-le-mul}
+-- `forces::weights::surcharge_weight` meets its contract. Two small factors multiply.
 use native.Mathlib.Omega.{arith}
 use borrow.Author.Needs.{needs}
 use Rattle.rules.specs.Forces.{surchargeWeight}
+use Rattle.rules.proofs.Accepted.{wall-within}
+use Rattle.forces.proofs.Factors.{two-fit}
 use Rattle.forces.proofs.weights.surcharge_weight.Statement.{statement}
 use Rattle.forces.proofs.weights.surcharge_weight.Tie as tie
 
@@ -13,7 +14,7 @@ field-requires-2 : tie.Need-field-requires-2
 field-requires-2 c κs = search needs
 
 mul-rounded-nearest : tie.Need-mul-rounded-nearest
-mul-rounded-nearest c = omega (arith, mul-le-mul (c .before .field .ensures .1) (c .field2 .ensures .1))
+mul-rounded-nearest c = two-fit (omega (arith, wall-within _ (c .before .before .pre)))
 
 rounded-nearest-requires : tie.Need-rounded-nearest-requires
 rounded-nearest-requires c κs = search needs
