@@ -19,9 +19,6 @@ two-fit h = within (omega (arith, below (h .0) (h .1)))
 pub three-fit : {a b c : ℕ} → (a < 2 ^ 15) × (b < 2 ^ 15) × (c < 2 ^ 15) → Fits w64 (a * b * c)
 three-fit h = two-fit (omega (arith, below (h .0) (h .1)))
 
-pub four-fit : {a b c d : ℕ} → (a < 2 ^ 15) × (b < 2 ^ 15) × (c < 2 ^ 15) × (d < 2 ^ 15) → Fits w64 (a * b * c * d)
-four-fit h = within (omega (arith, below (below (below (h .0) (h .1)) (h .2)) (h .3)))
-
 -- a product of two products
 pub pairs-fit : {a b c d : ℕ} → (a < 2 ^ 15) × (b < 2 ^ 15) × (c < 2 ^ 15) × (d < 2 ^ 15) → Fits w64 (a * b * (c * d))
 pairs-fit h = two-fit (omega (arith, below (h .0) (h .1), below (h .2) (h .3)))

@@ -9,7 +9,7 @@ use record::SATURATED_DENSITY;
 use record::SURCHARGE;
 use record::Wall;
 ghost use mathlib.Core.Path.{_≡_};
-ghost use Prim.Native.Nat.{_≤_};
+ghost use Prim.Native.Nat.{_*_, _≤_, _<_, _^_};
 ghost use lib.Dec.{T};
 ghost use Rattle.whole.specs.Rounding.{roundedUp};
 ghost use Rattle.rules.specs.JobFile.{wallFits};
@@ -34,6 +34,14 @@ fn push_of(product: u64, per: u64) -> u64
     whole::rounded_up(product, per)
 }
 
+// A coefficient, a density and two lengths, all small enough to multiply.
+fn push(k: u64, density: u64, a: u64, b: u64, per: u64) -> u64
+    requires { ⌜ (k < 2 ^ 15) × (density < 2 ^ 15) × (a < 2 ^ 15) × (b < 2 ^ 15) ⌝ }
+    ensures { λ r. ⌜ r ≡ roundedUp (k * density * (a * b)) per ⌝ }
+{
+    push_of(k * density * (a * b), per)
+}
+
 pub fn surcharge_push(wall: Wall, k: u64, h: u64) -> u64
     requires { ⌜ T (wallFits wall) × Face k h 0 ⌝ }
     ensures { λ r. ⌜ r ≡ surchargePush wall k h ⌝ }
@@ -47,8 +55,11 @@ pub fn moist_push(wall: Wall, k: u64, h: u64, hw: u64) -> u64
     ensures { λ r. ⌜ r ≡ moistPush wall k h hw ⌝ }
 {
     let above = h - hw;
-    push_of(
-        k * record::field(wall, MOIST_DENSITY) * (above * above),
+    push(
+        k,
+        record::field(wall, MOIST_DENSITY),
+        above,
+        above,
         PER_SQUARE_AT_K,
     )
 }
@@ -58,11 +69,8 @@ pub fn moist_push_below(wall: Wall, k: u64, h: u64, hw: u64) -> u64
     requires { ⌜ T (wallFits wall) × Face k h hw ⌝ }
     ensures { λ r. ⌜ r ≡ moistPushBelow wall k h hw ⌝ }
 {
-    let above = h - hw;
-    push_of(
-        k * record::field(wall, MOIST_DENSITY) * above * hw,
-        PER_VOLUME_AT_K,
-    )
+    let density = record::field(wall, MOIST_DENSITY);
+    push(k, density, h - hw, hw, PER_VOLUME_AT_K)
 }
 
 // Saturated fill, as much as it weighs under water.
@@ -71,7 +79,7 @@ pub fn saturated_push(wall: Wall, k: u64, hw: u64) -> u64
     ensures { λ r. ⌜ r ≡ saturatedPush wall k hw ⌝ }
 {
     let buoyant = record::field(wall, SATURATED_DENSITY) - WATER_DENSITY;
-    push_of(k * buoyant * (hw * hw), PER_SQUARE_AT_K)
+    push(k, buoyant, hw, hw, PER_SQUARE_AT_K)
 }
 
 pub fn water_push(hw: u64) -> u64
