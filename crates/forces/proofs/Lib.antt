@@ -1,5 +1,2 @@
-pub mod Components
-pub mod Factors
 pub mod Holding
-pub mod Indexed
 pub mod Summed

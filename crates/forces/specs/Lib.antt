@@ -1,3 +1,1 @@
-pub mod Components
-pub mod Faces
 pub mod Sorts

@@ -7,11 +7,8 @@ use lib.IntN.{ℤ, pos, natAbs, _*ℤ_}
 use Rattle.whole.specs.Sum.{sumTo}
 use Rattle.rules.specs.declared.Totals.{Totals}
 use Rattle.rules.specs.JobFile.{Load, isDown}
+use Rattle.components.specs.Tables.{components}
 use Rattle.rules.specs.Forces.{Sort, deadWeight, liveWeight, deadPush, livePush, vertical, horizontal, moment, restores, overturns, balances}
-
--- how many components a wall has, with as many loads as it may have
-abbrev pub components : ℕ
-components = 26
 
 -- a sort's place among the weights
 abbrev pub placeOf : Sort → ℕ

@@ -1,21 +1,20 @@
-// Document 01, "Forces": the component table of a wall under its loads, the totals, and what holds the wall against sliding.
-mod pushes;
-mod rows;
+// Document 01, "Forces" and "Toe and stem": the totals of a wall under its loads, what holds it against sliding, and what acts on its stem: all of
+// them sums of the component tables.
 mod sliding;
 mod sums;
-mod table;
-mod units;
-mod weights;
 
-use record::ACTIVE_COEFFICIENT;
+use components::Case;
 use record::Loads;
-use record::REST_COEFFICIENT;
 use record::Wall;
+use rules::Action;
 use rules::Answer;
 use rules::Forces;
 use rules::Sliding;
 use rules::Totals;
 use sums::FACTORED;
+use sums::FACTORS;
+use sums::HORIZONTAL;
+use sums::MOMENT;
 use sums::RESTS;
 use sums::SERVICE;
 use sums::VERTICAL;
@@ -23,6 +22,12 @@ ghost use mathlib.Core.Path.{_≡_};
 ghost use lib.Dec.{T};
 ghost use Rattle.rules.specs.Answered.{fits};
 ghost use Rattle.rules.specs.Forces.{noForces, workedForces, forcesOf};
+ghost use Rattle.rules.specs.ToeAndStem.{stemActionOf};
+
+// The stem's sums are in tenths of a N, and in tenths of a sixth of a N mm.
+const PER_FORCE: u64 = 10;
+
+const PER_MOMENT: u64 = 60;
 
 // A refusal has no figures.
 fn no_forces(refusal: Answer) -> Forces
@@ -55,8 +60,8 @@ fn worked(wall: Wall, loads: Loads) -> Forces
     ensures { λ r. ⌜ r ≡ workedForces wall loads ⌝ }
 {
     let sorts = sums::sorts_of(loads);
-    let active = table::filled(wall, loads, record::field(wall, ACTIVE_COEFFICIENT));
-    let at_rest = table::filled(wall, loads, record::field(wall, REST_COEFFICIENT));
+    let active = components::table_of(wall, loads, Case::Service);
+    let at_rest = components::table_of(wall, loads, Case::Factored);
     let service = sums::totals_by(active, sorts, SERVICE);
     let factored = sums::totals_by(at_rest, sorts, FACTORED);
     let resting = sums::column_sum(active, sorts, RESTS, VERTICAL);
@@ -82,4 +87,18 @@ pub fn totals(wall: Wall, loads: Loads) -> Forces
         return no_forces(Answer::LoadOutOfRange(unfit));
     }
     worked(wall, loads)
+}
+
+// What acts on the stem at the top of the base, factored and rounded up; 0 of a refused wall, whose table has nothing in it.
+pub fn stem_action(wall: Wall, loads: Loads) -> Action
+    ensures { λ r. ⌜ r ≡ stemActionOf wall loads ⌝ }
+{
+    let sorts = sums::sorts_of(loads);
+    let table = components::table_of(wall, loads, Case::Stem);
+    let shear = sums::column_sum(table, sorts, FACTORS, HORIZONTAL);
+    let moment = sums::column_sum(table, sorts, FACTORS, MOMENT);
+    Action {
+        shear: whole::rounded_up(whole::above_zero(shear), PER_FORCE),
+        moment: whole::rounded_up(whole::above_zero(moment), PER_MOMENT),
+    }
 }

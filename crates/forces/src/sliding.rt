@@ -1,6 +1,6 @@
 // Document 01, "Forces": what holds a wall that fits against sliding, in service figures. Passive force and friction are rounded down.
-use crate::units::PER_SQUARE_AT_K;
-use crate::units::THOUSANDTHS;
+use components::units::PER_SQUARE_AT_K;
+use components::units::THOUSANDTHS;
 use record::BASE_THICKNESS;
 use record::COVER_IN_FRONT;
 use record::EXCAVATION;

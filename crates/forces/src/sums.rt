@@ -1,15 +1,16 @@
 // Document 01, "Forces": the totals, each a sum of one column of the table in which a row is weighted by its sort.
-use crate::table::COMPONENTS;
-use crate::table::FIRST_DEAD;
-use crate::table::FIRST_LIVE;
-use crate::table::Table;
+use components::COMPONENTS;
+use components::FIRST_DEAD;
+use components::FIRST_LIVE;
+use components::Table;
 use record::DIRECTION;
 use record::Load;
 use record::Loads;
 use rules::Totals;
 ghost use mathlib.Core.Path.{_≡_};
 ghost use Prim.Native.Nat.{_<_};
-ghost use Rattle.forces.specs.Sorts.{components, byWay, sortsOf, sortAt, weightedSum, Small, Light, AllLight, totalsBy};
+ghost use Rattle.components.specs.Tables.{components};
+ghost use Rattle.forces.specs.Sorts.{byWay, sortsOf, sortAt, weightedSum, Small, Light, AllLight, totalsBy};
 
 // A sort's place among the weights.
 const DEAD_WEIGHT: usize = 0;
@@ -46,8 +47,10 @@ const DEAD_FACTOR: i64 = 14;
 
 const LIVE_FACTOR: i64 = 16;
 
+pub const FACTORS: Weights = [DEAD_FACTOR, LIVE_FACTOR, DEAD_FACTOR, LIVE_FACTOR];
+
 pub const FACTORED: TotalWeights = [
-    [DEAD_FACTOR, LIVE_FACTOR, DEAD_FACTOR, LIVE_FACTOR],
+    FACTORS,
     [DEAD_FACTOR, 0, 0, 0],
     [0, 0, DEAD_FACTOR, LIVE_FACTOR],
     [DEAD_FACTOR, LIVE_FACTOR, -DEAD_FACTOR, -LIVE_FACTOR],
@@ -59,9 +62,9 @@ pub const RESTS: Weights = [0, 1, 0, 0];
 // The table's columns.
 pub const VERTICAL: usize = 0;
 
-const HORIZONTAL: usize = 1;
+pub const HORIZONTAL: usize = 1;
 
-const MOMENT: usize = 2;
+pub const MOMENT: usize = 2;
 
 // The sorts of the weights and pushes: stem, base and the two fills, surcharge; then its push, and those of earth and water.
 const SORTS: [usize; FIRST_DEAD] = [

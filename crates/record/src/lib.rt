@@ -48,7 +48,31 @@ pub const PASSIVE_COEFFICIENT: usize = 16;
 
 pub const FRICTION_TANGENT: usize = 17;
 
+pub const ALLOWABLE_BEARING: usize = 18;
+
 pub const SURCHARGE: usize = 19;
+
+pub const CONCRETE_STRENGTH: usize = 20;
+
+pub const STEEL_STRENGTH: usize = 21;
+
+pub const LEAST_STEEL: usize = 22;
+
+pub const TOE_COVER: usize = 23;
+
+pub const TOE_BAR: usize = 24;
+
+pub const TOE_SPACING: usize = 25;
+
+pub const STEM_COVER: usize = 26;
+
+pub const STEM_BAR: usize = 27;
+
+pub const STEM_SPACING: usize = 28;
+
+pub const TOE_STRESS: usize = 29;
+
+pub const STEM_STRESS: usize = 30;
 
 // A load is its direction, its position, its dead and its live part.
 pub const LOAD_FIELDS: usize = 4;
@@ -104,7 +128,7 @@ const RANGES: [Range; FIELDS] = [
 ];
 
 // The diameters that a bar can have.
-const BARS: [u32; 8] = [8, 10, 12, 16, 20, 25, 32, 40];
+pub const BARS: [u32; 8] = [8, 10, 12, 16, 20, 25, 32, 40];
 
 // The greatest dead load, and the greatest live load, in N/m.
 const GREATEST_LOAD: u32 = 200000;

@@ -16,6 +16,7 @@ use Rattle.rules.specs.declared.Fraction.{Fraction}
 use Rattle.rules.specs.declared.Kind.{Kind}
 use Rattle.rules.specs.declared.Kind.the-variants.{Full, FromToe, FromHeel, NoBlock}
 use Rattle.rules.specs.declared.Block.{Block}
+use Rattle.rules.specs.declared.Borne.{Borne}
 use Rattle.rules.specs.declared.Totals.{Totals}
 use Rattle.rules.specs.JobFile.{Wall, Load, baseLength}
 use Rattle.rules.specs.Answered.{fits}
@@ -339,12 +340,18 @@ module _ (wall : Wall) (loads : List Load) (accepted : T (fits wall loads)) wher
 
 -- ---- what is answered of one wall with its loads
 
--- where they fit, the blocks are those of the wall under its loads
-pub worked-blocks : (wall : Wall) (loads : List Load) → fits wall loads ≡ true
-    → (bearingOf wall loads .service ≡ pressedBy serviceScale (serviceBlock wall loads))
-    × (bearingOf wall loads .factored ≡ pressedBy factoredScale (factoredBlock wall loads))
+-- where they fit, the forces and the blocks are those of the wall under its loads
+abbrev pub workedBorne : Wall → List Load → Borne
+workedBorne wall loads =
+    record {
+      forces = workedForces wall loads;
+      service = pressedBy serviceScale (serviceBlock wall loads);
+      factored = pressedBy factoredScale (factoredBlock wall loads);
+    }
+
+pub worked-blocks : (wall : Wall) (loads : List Load) → fits wall loads ≡ true → bearingOf wall loads ≡ workedBorne wall loads
 unfolding bearingOf forcesOf workedForces serviceBlock factoredBlock
-worked-blocks wall loads e = rw e (refl, refl)
+worked-blocks wall loads e = rw e
 
 -- where they are refused, no block is given
 pub refused-blocks : (wall : Wall) (loads : List Load) → fits wall loads ≡ false

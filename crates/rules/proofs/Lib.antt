@@ -1,10 +1,14 @@
 pub mod Accepted
 pub mod AcceptedFile
 pub mod Additive
+pub mod Bits
 pub mod Carries
 pub mod Examined
 pub mod Lever
+pub mod Lines
 pub mod LoadsOfWalls
 pub mod Points
+pub mod Pressures
 pub mod Roundings
+pub mod Sections
 pub mod Sizes

@@ -15,8 +15,8 @@ use Rattle.rules.specs.JobFile.{Wall, activeCoefficient, waterHeight, u1
 use Rattle.rules.specs.Answered.{countsFit, offsetsAndLengthFit, firstBadWall, firstBadLoad, firstRefusal}
 use Rattle.rules.specs.Forces.{saturatedHeight, stemWeight, baseWeight, saturatedWeight, moistWeight, surchargeWeight, surchargePush, moistPush, moistPushBelow, saturatedPush, waterPush, weightRows, pushRows, loadRow, deadRow, liveRow, loadTable, table, columnSum, totals, service, factored, passiveDepth, passive, lastingWeight, frictionUnder, isPropped, slidingUnder, slidingOf}
 use Rattle.rules.specs.Bearing.{serviceScale, isNone, isFull, isFromToe, isFromHeel, kindOf, ofKind, blockOf, reported, peak, given, blockUnder, serviceBlock, factoredBlock, pressedBy}
-use Rattle.rules.specs.ToeAndStem.{scaled, pressureBy, pressureAt, twiceArm, toeWorked, shearOfBearing, shearOfWeight, momentOfBearing, momentOfWeight, toeShear, toeMoment, stemLoadTable, stemTable, stemShear, stemMoment, toeSection, stemSection, twiceDepth, needsCompression, bears, greatest, leverArm, neededArea, leastArea, besides, barArea, providedArea, requiredArea, steelFails, shearFails, toeArea, stemArea, toeSteelFails, stemSteelFails, toeShearFails, stemShearFails}
-use Rattle.rules.specs.SheetLine.{ascii, fails, failuresAmong, failures, line, linesFrom, sheet, joined, digits, decimal, signedDecimal, twoHexDigits, lineRest, lineText, printed}
+use Rattle.rules.specs.ToeAndStem.{scaled, pressureBy, pressureAt, twiceArm, toeWorked, shearOfBearing, shearOfWeight, momentOfBearing, momentOfWeight, toeAction, stemLoadTable, stemTable, stemAction, toeSection, stemSection, twiceDepth, needsCompression, bears, greatest, leverArm, neededArea, leastArea, besides, barArea, providedArea, requiredArea, steelFails, shearFails, memberUnder, toeUnder, toe, stem}
+use Rattle.rules.specs.SheetLine.{ascii, fails, bitsAmong, failures, line, linesFrom, sheet, joined, digits, decimal, signedDecimal, twoHexDigits, lineRest, lineText, printed}
 
 -- what the definitions give, and what document 01 wants
 pub record Point : Type 1 where
@@ -95,5 +95,5 @@ Hold [] = Unit
 Hold (p ∷ rest) = (p .worked ≡ p .wanted) × Hold rest
 
 pub points-hold : Hold points
-unfolding excavatedA shown u16At u32At u32sAt entriesAt wallAt recordsFrom walls entries loadsOn baseLength wallHeight among within firstOutside firstBadField wallFits countsFit offsetsAndLengthFit firstBadWall firstBadLoad firstRefusal saturatedHeight stemWeight baseWeight saturatedWeight moistWeight surchargeWeight surchargePush moistPush moistPushBelow saturatedPush waterPush weightRows pushRows loadRow deadRow liveRow loadTable table columnSum totals service factored passiveDepth passive lastingWeight frictionUnder isPropped slidingUnder slidingOf isNone isFull isFromToe isFromHeel kindOf ofKind blockOf reported peak given blockUnder serviceBlock factoredBlock pressedBy scaled pressureBy pressureAt twiceArm toeWorked shearOfBearing shearOfWeight momentOfBearing momentOfWeight toeShear toeMoment stemLoadTable stemTable stemShear stemMoment toeSection stemSection twiceDepth needsCompression bears greatest leverArm neededArea leastArea besides barArea providedArea requiredArea steelFails shearFails toeArea stemArea toeSteelFails stemSteelFails toeShearFails stemShearFails fails failuresAmong failures line linesFrom sheet joined digits decimal signedDecimal twoHexDigits lineRest lineText printed roundedUp roundedDown roundedNearest sumOf
+unfolding excavatedA shown u16At u32At u32sAt entriesAt wallAt recordsFrom walls entries loadsOn baseLength wallHeight among within firstOutside firstBadField wallFits countsFit offsetsAndLengthFit firstBadWall firstBadLoad firstRefusal saturatedHeight stemWeight baseWeight saturatedWeight moistWeight surchargeWeight surchargePush moistPush moistPushBelow saturatedPush waterPush weightRows pushRows loadRow deadRow liveRow loadTable table columnSum totals service factored passiveDepth passive lastingWeight frictionUnder isPropped slidingUnder slidingOf isNone isFull isFromToe isFromHeel kindOf ofKind blockOf reported peak given blockUnder serviceBlock factoredBlock pressedBy scaled pressureBy pressureAt twiceArm toeWorked shearOfBearing shearOfWeight momentOfBearing momentOfWeight toeAction stemLoadTable stemTable stemAction toeSection stemSection twiceDepth needsCompression bears greatest leverArm neededArea leastArea besides barArea providedArea requiredArea steelFails shearFails memberUnder toeUnder toe stem fails bitsAmong failures line linesFrom sheet joined digits decimal signedDecimal twoHexDigits lineRest lineText printed roundedUp roundedDown roundedNearest sumOf
 points-hold = (refl, (refl, (refl, (refl, (refl, (refl, (refl, (refl, (refl, (refl, (refl, (refl, (refl, (refl, (refl, (refl, tt))))))))))))))))

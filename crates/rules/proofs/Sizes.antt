@@ -137,7 +137,7 @@ part-sound {wall} {heavy} weigh press part w b e g h (load ∷ loads) all =
     go true far small = weight e (omega (arith, base-length w))
     go false far small = push g (omega (arith, wall-height w))
 
-loads-sound : {wall : Wall} (heavy : ℕ) → WallWithin wall → Lies greatestLoad 1200001 heavy → (loads : List Load) → AllFit wall loads
+pub loads-sound : {wall : Wall} (heavy : ℕ) → WallWithin wall → Lies greatestLoad 1200001 heavy → (loads : List Load) → AllFit wall loads
     → All (Sound (baseLength wall) heavy) (loadTable loads)
 unfolding loadTable deadRow liveRow
 loads-sound heavy w b loads all =
@@ -146,7 +146,10 @@ loads-sound heavy w b loads all =
 
 -- ---- columns and totals
 
--- not negative, and well within 64 bits
+-- well within 64 bits, and not negative besides
+abbrev pub Small : ℕ → Type 0
+Small n = n < 1000000000000000
+
 abbrev pub Moderate : ℤ → Type 0
 Moderate z = (pos 0 ≤ℤ z) × (z <ℤ pos 1000000000000000)
 
@@ -168,10 +171,10 @@ pub record Sized (l : ℤ) (most : ℕ) (t : Totals) : Type 0 where
   pub on-base : t .moment <ℤ (pos 6 *ℤ t .vertical *ℤ l)
 
 -- each of the four sorts has P
-abbrev Each : (Sort → Type 0) → Type 0
+abbrev pub Each : (Sort → Type 0) → Type 0
 Each P = P deadWeight × P liveWeight × P deadPush × P livePush
 
-each : (P : Sort → Type 0) → Each P → (s : Sort) → P s
+pub each : (P : Sort → Type 0) → Each P → (s : Sort) → P s
 each P h deadWeight = h .0
 each P h liveWeight = h .1
 each P h deadPush = h .2

@@ -5,59 +5,63 @@ use Prim.Native.String.{String, [] as empty, _∷_ as _then_}
 use mathlib.Core.Path.{_≡_}
 use mathlib.Core.Bool.{Bool, true, false, not, _||_, cond}
 use mathlib.Core.List.{List, [], _∷_, _++_, map}
-use lib.Dec.{T, ltb}
-use lib.ListN.{length, getD, drop}
+use lib.Dec.{T, ltb, eqb}
+use lib.ListN.{length, getD, drop, replicate}
 use lib.IntN.{ℤ, pos, negsuc}
 use lib.Signed.{ltZ}
 use Rattle.whole.specs.Parts.{aboveZero}
 use Rattle.rules.specs.declared.Answer.{Answer}
-use Rattle.rules.specs.declared.Answer.the-variants.{BufferTooShort}
+use Rattle.rules.specs.declared.Answer.the-variants.{Worked, BufferTooShort}
+use Rattle.rules.specs.declared.Check.{Check}
+use Rattle.rules.specs.declared.Check.the-variants.{Slides, Overturns, OverAllowable, NoServiceBlock, NoFactoredBlock, ToeSteel, StemSteel, Sheared}
+use Rattle.rules.specs.declared.WallLine.{WallLine}
 use Rattle.rules.specs.JobFile.{File, Wall, Load, Entry, wallCount, allowableBearing, walls, entries, loadsOn}
-use Rattle.rules.specs.Answered.{number, place, isWorked, refusedIf, _orElse_, firstRefusal}
+use Rattle.rules.specs.Answered.{number, place, isWorked, refusedIf, _orElse_, firstRefusal, examined, fits}
 use Rattle.rules.specs.Forces.{service, slides, proppingForce}
 use Rattle.rules.specs.Bearing.{serviceScale, factoredScale, reported, peak, serviceBlock, factoredBlock, isGiven}
-use Rattle.rules.specs.ToeAndStem.{toeShear, toeMoment, toeArea, stemShear, stemMoment, stemArea, toeSteelFails, stemSteelFails, toeShearFails, stemShearFails}
+use Rattle.rules.specs.ToeAndStem.{toe, stem}
 
 -- ---- the checks
 
-pub data Check : Type 0 where
-  sliding overturning overAllowable noServiceBlock noFactoredBlock toeSteel stemSteel shear : Check
-
 -- the test of each: does a wall fail it? The allowable pressure is in kN/m2, each of 1000 N/m2.
 unfoldable pub fails : Check → Wall → List Load → Bool
-fails sliding wall loads = slides wall loads
-fails overturning wall loads = ltZ (service wall loads .restoring) (service wall loads .overturning)
-fails overAllowable wall loads = ltb (1000 * allowableBearing wall) (peak serviceScale (serviceBlock wall loads))
-fails noServiceBlock wall loads = not (isGiven (serviceBlock wall loads))
-fails noFactoredBlock wall loads = not (isGiven (factoredBlock wall loads))
-fails toeSteel wall loads = toeSteelFails wall loads
-fails stemSteel wall loads = stemSteelFails wall loads
-fails shear wall loads = toeShearFails wall loads || stemShearFails wall loads
+fails Slides wall loads = slides wall loads
+fails Overturns wall loads = ltZ (service wall loads .restoring) (service wall loads .overturning)
+fails OverAllowable wall loads = ltb (1000 * allowableBearing wall) (peak serviceScale (serviceBlock wall loads))
+fails NoServiceBlock wall loads = not (isGiven (serviceBlock wall loads))
+fails NoFactoredBlock wall loads = not (isGiven (factoredBlock wall loads))
+fails ToeSteel wall loads = toe wall loads .steel .fails
+fails StemSteel wall loads = stem wall loads .steel .fails
+fails Sheared wall loads = toe wall loads .sheared || stem wall loads .sheared
 
 -- the fact that a wall fails one
 abbrev pub Failure : Check → Wall → List Load → Type 0
 Failure check wall loads = T (fails check wall loads)
 
 abbrev pub bit : Check → ℕ
-bit sliding = 1
-bit overturning = 2
-bit overAllowable = 4
-bit noServiceBlock = 8
-bit noFactoredBlock = 16
-bit toeSteel = 32
-bit stemSteel = 64
-bit shear = 128
+bit Slides = 1
+bit Overturns = 2
+bit OverAllowable = 4
+bit NoServiceBlock = 8
+bit NoFactoredBlock = 16
+bit ToeSteel = 32
+bit StemSteel = 64
+bit Sheared = 128
 
 abbrev pub checks : List Check
-checks = sliding ∷ overturning ∷ overAllowable ∷ noServiceBlock ∷ noFactoredBlock ∷ toeSteel ∷ stemSteel ∷ shear ∷ []
+checks = Slides ∷ Overturns ∷ OverAllowable ∷ NoServiceBlock ∷ NoFactoredBlock ∷ ToeSteel ∷ StemSteel ∷ Sheared ∷ []
 
--- the bits of the checks that fail, in one byte
-unfoldable pub failuresAmong : List Check → Wall → List Load → ℕ
-failuresAmong [] wall loads = 0
-failuresAmong (check ∷ rest) wall loads = cond (fails check wall loads) (bit check) 0 + failuresAmong rest wall loads
+-- the bits of the checks that a test picks, in one byte
+unfoldable pub bitsAmong : List Check → (Check → Bool) → ℕ
+bitsAmong [] picks = 0
+bitsAmong (check ∷ rest) picks = cond (picks check) (bit check) 0 + bitsAmong rest picks
 
 unfoldable pub failures : Wall → List Load → ℕ
-failures wall loads = failuresAmong checks wall loads
+failures wall loads = bitsAmong checks (λ check. fails check wall loads)
+
+-- is a check's bit set in a byte?
+unfoldable pub isSet : ℕ → Check → Bool
+isSet byte check = eqb (byte / bit check % 2) 1
 
 -- ---- the line of wall number n
 
@@ -76,13 +80,19 @@ line n wall loads =
     ∷ pos (reported serviceScale (serviceBlock wall loads .heel))
     ∷ pos (reported factoredScale (factoredBlock wall loads .toe))
     ∷ pos (reported factoredScale (factoredBlock wall loads .heel))
-    ∷ pos (toeShear wall loads)
-    ∷ pos (toeMoment wall loads)
-    ∷ pos (toeArea wall loads)
-    ∷ pos (stemShear wall loads)
-    ∷ pos (stemMoment wall loads)
-    ∷ pos (stemArea wall loads)
+    ∷ pos (toe wall loads .action .shear)
+    ∷ pos (toe wall loads .action .moment)
+    ∷ pos (toe wall loads .steel .required)
+    ∷ pos (stem wall loads .action .shear)
+    ∷ pos (stem wall loads .action .moment)
+    ∷ pos (stem wall loads .steel .required)
     ∷ []
+
+-- what is answered of one wall, with its number and its loads: its line, or the refusal and nothing but zeros
+unfoldable pub lineOf : ℕ → Wall → List Load → WallLine
+lineOf n wall loads =
+    cond (fits wall loads) (record { answer = Worked; numbers = line n wall loads })
+    (record { answer = examined wall loads; numbers = replicate lineNumbers (pos 0) })
 
 -- the lines of walls, the first of them number n, each with its own loads of the file
 unfoldable pub linesFrom : ℕ → List Wall → List Entry → List (List ℤ)

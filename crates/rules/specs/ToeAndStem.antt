@@ -12,7 +12,11 @@ use Rattle.rules.specs.declared.Kind.{Kind}
 use Rattle.rules.specs.declared.Kind.the-variants.{Full, FromToe, FromHeel, NoBlock}
 use Rattle.rules.specs.declared.Block.{Block}
 use Rattle.rules.specs.declared.Section.{Section}
+use Rattle.rules.specs.declared.Action.{Action}
+use Rattle.rules.specs.declared.Steel.{Steel}
+use Rattle.rules.specs.declared.Member.{Member}
 use Rattle.rules.specs.JobFile.{Wall, Load, stemHeight, stemThickness, toeLength, baseThickness, baseDensity, restCoefficient, concreteStrength, steelStrength, leastSteel, toeCover, toeBar, toeSpacing, stemCover, stemBar, stemSpacing, toeStress, stemStress, baseLength, bars, isDown, position, deadLoad, liveLoad}
+use Rattle.rules.specs.Answered.{fits}
 use Rattle.rules.specs.Forces.{perVolume, squared, saturatedHeight, Component, deadPush, livePush, across, pushRows, horizontal, moment, columnSum, tenths}
 use Rattle.rules.specs.Bearing.{factoredScale, reported, factoredBlock, isGiven}
 
@@ -35,48 +39,44 @@ pressureBy FromToe b l twice = scaled (reported factoredScale (b .toe)) (b .cont
 pressureBy FromHeel b l twice = scaled (reported factoredScale (b .heel)) (b .contact) (2 * l - twice)
 pressureBy NoBlock b l twice = 0
 
--- at a point of the base, so far from the toe
-unfoldable pub pressureAt : Wall → List Load → ℕ → ℕ
-pressureAt wall loads twice = let b = factoredBlock wall loads in pressureBy (b .kind) b (baseLength wall) twice
+-- under a wall's base, at a point so far from the toe
+unfoldable pub pressureAt : Wall → Block → ℕ → ℕ
+pressureAt wall b twice = pressureBy (b .kind) b (baseLength wall) twice
 
--- ---- the toe
+-- ---- the toe, over a factored block
 
 -- 2a: twice the distance of the stem's middle from the toe
 unfoldable pub twiceArm : Wall → ℕ
 twiceArm wall = 2 * toeLength wall + stemThickness wall
 
--- a toe to work, and a factored block under it
-unfoldable pub toeWorked : Wall → List Load → Bool
-toeWorked wall loads = ltb 0 (toeLength wall) && isGiven (factoredBlock wall loads)
+-- there is a toe, and a block under it
+unfoldable pub toeWorked : Wall → Block → Bool
+toeWorked wall b = ltb 0 (toeLength wall) && isGiven b
 
 -- mm x (N/m2) on a metre's run: 1000 to the newton
 abbrev pub perPressure : ℕ
 perPressure = 1000
 
 -- (p at 0 + p at lt) x lt / 2, rounded up
-unfoldable pub shearOfBearing : Wall → List Load → ℕ
-shearOfBearing wall loads =
-    roundedUp ((pressureAt wall loads 0 + pressureAt wall loads (2 * toeLength wall)) * toeLength wall) (2 * perPressure)
+unfoldable pub shearOfBearing : Wall → Block → ℕ
+shearOfBearing wall b = roundedUp ((pressureAt wall b 0 + pressureAt wall b (2 * toeLength wall)) * toeLength wall) (2 * perPressure)
 
 -- 1.4 x base density x tb x lt, rounded down; 1.4 is 14 tenths
 unfoldable pub shearOfWeight : Wall → ℕ
 shearOfWeight wall = roundedDown (14 * baseDensity wall * baseThickness wall * toeLength wall) (10 * perVolume)
 
 -- (2 x p at 0 + p at a) x a^2 / 6, rounded up; a^2 is a quarter of (2a)^2
-unfoldable pub momentOfBearing : Wall → List Load → ℕ
-momentOfBearing wall loads =
-    roundedUp ((2 * pressureAt wall loads 0 + pressureAt wall loads (twiceArm wall)) * squared (twiceArm wall)) (4 * 6 * perPressure)
+unfoldable pub momentOfBearing : Wall → Block → ℕ
+momentOfBearing wall b =
+    roundedUp ((2 * pressureAt wall b 0 + pressureAt wall b (twiceArm wall)) * squared (twiceArm wall)) (4 * 6 * perPressure)
 
 -- 1.4 x base density x tb x a^2 / 2, rounded down
 unfoldable pub momentOfWeight : Wall → ℕ
 momentOfWeight wall = roundedDown (14 * baseDensity wall * baseThickness wall * squared (twiceArm wall)) (4 * 2 * 10 * perVolume)
 
 -- a negative difference counts as 0, which is what a difference of whole numbers is here
-unfoldable pub toeShear : Wall → List Load → ℕ
-toeShear wall loads = cond (toeWorked wall loads) (shearOfBearing wall loads - shearOfWeight wall) 0
-
-unfoldable pub toeMoment : Wall → List Load → ℕ
-toeMoment wall loads = cond (toeWorked wall loads) (momentOfBearing wall loads - momentOfWeight wall) 0
+unfoldable pub toeAction : Wall → Block → Action
+toeAction wall b = record { shear = shearOfBearing wall b - shearOfWeight wall; moment = momentOfBearing wall b - momentOfWeight wall }
 
 -- ---- the stem, on the base's top
 
@@ -96,13 +96,13 @@ stemLoadTable wall (load ∷ rest) = stemLoadRows wall load ++ stemLoadTable wal
 unfoldable pub stemTable : Wall → List Load → List Component
 stemTable wall loads = pushRows wall (restCoefficient wall) (stemHeight wall) (saturatedHeight wall) ++ stemLoadTable wall loads
 
--- from tenths of a N
-unfoldable pub stemShear : Wall → List Load → ℕ
-stemShear wall loads = roundedUp (aboveZero (columnSum tenths horizontal (stemTable wall loads))) 10
-
--- from tenths of a sixth of a N mm
-unfoldable pub stemMoment : Wall → List Load → ℕ
-stemMoment wall loads = roundedUp (aboveZero (columnSum tenths moment (stemTable wall loads))) (6 * 10)
+-- the shear from tenths of a N, the moment from tenths of a sixth of a N mm
+unfoldable pub stemAction : Wall → List Load → Action
+stemAction wall loads =
+    record {
+      shear = roundedUp (aboveZero (columnSum tenths horizontal (stemTable wall loads))) 10;
+      moment = roundedUp (aboveZero (columnSum tenths moment (stemTable wall loads))) (6 * 10);
+    }
 
 -- ---- steel, BS 8110: one rule for every section
 
@@ -192,22 +192,54 @@ shearFails s shear =
     && leb (2 * shear) (5000 * D)
     && leb (100 * squared (2 * shear)) (64 * s .concrete * squared (1000 * D)))
 
--- ---- what is required of each, and what fails; a toe that isn't worked isn't checked
+-- ---- a member: what acts on its section, and what the section makes of it
 
-unfoldable pub toeArea : Wall → List Load → ℕ
-toeArea wall loads = cond (toeWorked wall loads) (requiredArea (toeSection wall) (toeMoment wall loads)) 0
+unfoldable pub memberUnder : Section → Action → Member
+memberUnder s a =
+    record { action = a; steel = record { required = requiredArea s (a .moment); fails = steelFails s (a .moment) }; sheared = shearFails s (a .shear) }
 
-unfoldable pub stemArea : Wall → List Load → ℕ
-stemArea wall loads = requiredArea (stemSection wall) (stemMoment wall loads)
+abbrev pub noAction : Action
+noAction = record { shear = 0; moment = 0 }
 
-unfoldable pub toeSteelFails : Wall → List Load → Bool
-toeSteelFails wall loads = toeWorked wall loads && steelFails (toeSection wall) (toeMoment wall loads)
+-- figures of 0, and no check made
+abbrev pub noMember : Member
+noMember = record { action = noAction; steel = record { required = 0; fails = false }; sheared = false }
 
-unfoldable pub stemSteelFails : Wall → List Load → Bool
-stemSteelFails wall loads = steelFails (stemSection wall) (stemMoment wall loads)
+unfoldable pub toeUnder : Wall → Block → Member
+toeUnder wall b = cond (toeWorked wall b) (memberUnder (toeSection wall) (toeAction wall b)) noMember
 
-unfoldable pub toeShearFails : Wall → List Load → Bool
-toeShearFails wall loads = toeWorked wall loads && shearFails (toeSection wall) (toeShear wall loads)
+unfoldable pub toe : Wall → List Load → Member
+toe wall loads = toeUnder wall (factoredBlock wall loads)
 
-unfoldable pub stemShearFails : Wall → List Load → Bool
-stemShearFails wall loads = shearFails (stemSection wall) (stemShear wall loads)
+unfoldable pub stem : Wall → List Load → Member
+stem wall loads = memberUnder (stemSection wall) (stemAction wall loads)
+
+-- ---- what is answered of any wall with its loads, and of any section
+
+-- a refused wall has no figure
+unfoldable pub stemActionOf : Wall → List Load → Action
+stemActionOf wall loads = cond (fits wall loads) (stemAction wall loads) noAction
+
+-- the greatest that each number of a section is in any wall
+abbrev pub greatestSection : Section
+greatestSection =
+    record { thickness = 1500; cover = 75; bar = 40; spacing = 500; stress = 5000; concrete = 60; steel = 500; least = 100 }
+
+unfoldable pub isWorkable : Section → Bool
+isWorkable s =
+    let most = greatestSection in
+    leb (s .thickness) (most .thickness)
+    && leb (s .cover) (most .cover)
+    && leb (s .bar) (most .bar)
+    && leb (s .spacing) (most .spacing)
+    && leb (s .stress) (most .stress)
+    && leb (s .concrete) (most .concrete)
+    && leb (s .steel) (most .steel)
+    && leb (s .least) (most .least)
+
+-- a section beyond that isn't worked, and passes neither check
+abbrev pub unworked : Action → Member
+unworked a = record { action = a; steel = record { required = 0; fails = true }; sheared = true }
+
+unfoldable pub memberOf : Section → Action → Member
+memberOf s a = cond (isWorkable s) (memberUnder s a) (unworked a)

@@ -105,6 +105,46 @@ pub struct Section {
     pub least: u64,
 }
 
+// What acts on a section: shear in N and moment in N mm, on a metre's run.
+pub struct Action {
+    pub shear: u64,
+    pub moment: u64,
+}
+
+// The steel that a section requires in mm2, and whether it fails: less is provided, or compression steel would be needed.
+pub struct Steel {
+    pub required: u64,
+    pub fails: bool,
+}
+
+// A toe or a stem: what acts on it, its steel, and whether it fails in shear.
+pub struct Member {
+    pub action: Action,
+    pub steel: Steel,
+    pub sheared: bool,
+}
+
+// The checks, in the order of their bits.
+pub enum Check {
+    Slides,
+    Overturns,
+    OverAllowable,
+    NoServiceBlock,
+    NoFactoredBlock,
+    ToeSteel,
+    StemSteel,
+    Sheared,
+}
+
+// How many numbers a wall's line has.
+pub const LINE: usize = 16;
+
+// A wall's line, in the order of the sheet, or the refusal and nothing but zeros.
+pub struct WallLine {
+    pub answer: Answer,
+    pub numbers: [i64; LINE],
+}
+
 // The drawing record: the service totals R and H in kN, and R's distance from the toe in mm.
 pub struct Drawing {
     pub vertical: f64,

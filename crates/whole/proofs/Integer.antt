@@ -23,7 +23,8 @@ pub record Diff (z : ℤ) (p n : ℕ) : Type 0 where
 pos-inj : {a b : ℕ} → pos a ≡ pos b → a ≡ b
 pos-inj e = ap natAbs e
 
-case : (b : Bool) (x y : ℤ) (P : ℤ → Type 0) → (T b → P x) → (T (not b) → P y) → P (cond b x y)
+-- what each of two has where it is chosen, the one that is chosen has
+pub case : {A : Type 0} (b : Bool) (x y : A) (P : A → Type 0) → (T b → P x) → (T (not b) → P y) → P (cond b x y)
 case true x y P f g = f tt
 case false x y P f g = g tt
 
@@ -324,10 +325,19 @@ pub above-most : (z : ℤ) {n : ℕ} → z <ℤ pos n → aboveZero z ≤ n
 above-most (pos m) h = omega (arith, pos-<ℤ .0 h)
 above-most (negsuc m) h = omega arith
 
+-- and less than that, where it is above 0
+pub above-less : (z : ℤ) {n : ℕ} → 0 < n → z <ℤ pos n → aboveZero z < n
+above-less (pos m) h k = pos-<ℤ .0 k
+above-less (negsuc m) h k = h
+
 -- a difference's part above 0
 pub above-diff : (z : ℤ) {p n : ℕ} → Diff z p n → aboveZero z ≡ p - n
 above-diff (pos a) d = omega (arith, diff-pos a d)
 above-diff (negsuc a) d = omega (arith, diff-negsuc a d)
+
+-- what is not negative, taken away, leaves no more above 0
+pub above-sub : (x : ℤ) {y : ℤ} → pos 0 ≤ℤ y → aboveZero (x -ℤ y) ≤ aboveZero x
+above-sub x {y} h = omega (arith, above-diff (x -ℤ y) (diff-sub (itself x) (itself y)), le-parts h)
 
 pub *ℤ-nonneg : {a b : ℤ} → pos 0 ≤ℤ a → pos 0 ≤ℤ b → pos 0 ≤ℤ (a *ℤ b)
 *ℤ-nonneg h k = rw (nonneg-abs h, nonneg-abs k) (pos-≤ℤ .1 (omega arith))
@@ -347,6 +357,10 @@ abs-neg (negsuc n) = refl
 pub abs-<ℤ : (x : ℤ) {b : ℕ} → natAbs x < b → x <ℤ pos b
 abs-<ℤ (pos a) h = pos-<ℤ .1 h
 abs-<ℤ (negsuc a) h = ltZ-yes tt
+
+-- and what is not negative has its absolute value below what it is below
+pub abs-less : {x : ℤ} {b : ℕ} → pos 0 ≤ℤ x → x <ℤ pos b → natAbs x < b
+abs-less h k = pos-<ℤ .0 (rw (nonneg-abs h) at k)
 
 pub abs-add : (x y : ℤ) → natAbs (x +ℤ y) ≤ natAbs x + natAbs y
 abs-add x y =

@@ -1,3 +1,5 @@
+pub mod Factors
+pub mod Indexed
 pub mod Integer
 pub mod Lists
 pub mod Rounded

@@ -138,6 +138,11 @@ unfolding roundedDown
 up-down a zero = omega (arith, up-by-zero a)
 up-down a (suc b) = up-least (suc b) (omega (arith, lt-div-mul-add {a = a} {b = suc b} (omega arith)))
 
+-- up is no more than what is divided
+pub up-within : (a b : ℕ) → roundedUp a b ≤ a
+up-within a zero = omega (arith, up-by-zero a)
+up-within a (suc b) = up-least (suc b) (omega arith)
+
 -- what is enough is no less than the nearest either
 pub nearest-least : {a n : ℕ} (b : ℕ) → a ≤ n * b → roundedNearest a b ≤ n
 nearest-least {a} b h = le-trans (nearest-up a b) (up-least b h)

@@ -6,7 +6,7 @@ use mir.Facts.{toZ-ofZ}
 use Rattle.whole.specs.Parts.{aboveZero}
 use Rattle.rules.specs.Forces.{frictionUnder}
 use Rattle.rules.proofs.Accepted.{wall-within}
-use Rattle.forces.proofs.Factors.{two-fit}
+use Rattle.whole.proofs.Factors.{two-fit}
 use Rattle.whole.proofs.Integer.{above-most}
 use Rattle.forces.proofs.sliding.friction_under.Statement.{statement}
 use Rattle.forces.proofs.sliding.friction_under.Tie as tie

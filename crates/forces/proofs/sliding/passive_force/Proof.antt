@@ -3,7 +3,7 @@ use native.Mathlib.Omega.{arith}
 use borrow.Author.Needs.{needs}
 use Rattle.rules.specs.Forces.{passive, passiveDepth}
 use Rattle.rules.proofs.Accepted.{wall-within}
-use Rattle.forces.proofs.Factors.{two-fit, pairs-fit}
+use Rattle.whole.proofs.Factors.{two-fit, pairs-fit}
 use Rattle.forces.proofs.sliding.passive_force.Statement.{statement}
 use Rattle.forces.proofs.sliding.passive_force.Tie as tie
 

@@ -10,7 +10,8 @@ use mir.Syntax.{w64}
 use mir.Val.{SFits, ofZ, toZ}
 use Rattle.whole.specs.Sum.{sumTo}
 use Rattle.whole.proofs.Integer.{abs-add, abs-weighted, fits-abs, back}
-use Rattle.forces.specs.Sorts.{components, weighted, weightedSum, Small, Light}
+use Rattle.components.specs.Tables.{components}
+use Rattle.forces.specs.Sorts.{weighted, weightedSum, Small, Light}
 use Rattle.forces.proofs.Summed.{sum-within}
 use Rattle.forces.proofs.sums.column_sum.Statement.{statement}
 use Rattle.forces.proofs.sums.column_sum.Tie as tie

@@ -4,7 +4,7 @@ use mathlib.Core.List.{[]}
 use native.Mathlib.Omega.{arith}
 use borrow.Author.Needs.{needs}
 use Rattle.forces.specs.Sorts.{firstSorts, byWay, sortsOf, sortAt}
-use Rattle.forces.proofs.Indexed.{at-first, at-second, at-third}
+use Rattle.whole.proofs.Indexed.{at-first, at-second, at-third}
 use Rattle.forces.proofs.sums.sort_at.Statement.{statement}
 use Rattle.forces.proofs.sums.sort_at.Tie as tie
 

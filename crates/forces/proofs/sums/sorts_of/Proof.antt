@@ -2,8 +2,9 @@
 use mathlib.Core.Path.{refl}
 use Prim.Native.Nat.{_-_}
 use native.Mathlib.Omega.{arith}
-use Rattle.forces.specs.Sorts.{components, sortsOf, sortAt}
-use Rattle.forces.proofs.Indexed.{Filled, none-filled, one-more, all-filled}
+use Rattle.components.specs.Tables.{components}
+use Rattle.forces.specs.Sorts.{sortsOf, sortAt}
+use Rattle.whole.proofs.Indexed.{Filled, none-filled, one-more, all-filled}
 use Rattle.forces.proofs.Summed.{sorts-length}
 use Rattle.forces.proofs.sums.sorts_of.Statement.{statement}
 use Rattle.forces.proofs.sums.sorts_of.Tie as tie

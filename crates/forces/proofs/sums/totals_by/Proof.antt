@@ -1,19 +1,9 @@
 -- `forces::sums::totals_by` meets its contract.
-use mathlib.Core.Path.{_≡_, _∙_}
-use Prim.Native.Nat.{_<_, _^_}
 use borrow.Author.Needs.{needs}
-use lib.IntN.{ℤ}
-use lib.Signed.{mag}
-use mir.Syntax.{w64}
-use mir.Val.{ofZ, toZ}
-use mir.ValLaws.{toZ-ofZ}
 use Rattle.forces.specs.Sorts.{totalsBy}
+use Rattle.forces.proofs.Summed.{read-back}
 use Rattle.forces.proofs.sums.totals_by.Statement.{statement}
 use Rattle.forces.proofs.sums.totals_by.Tie as tie
-
--- a number that fits is read back from its bits
-read-back : {r z : ℤ} → r ≡ z → mag r < 2 ^ 63 → toZ w64 (ofZ w64 r) ≡ z
-read-back {r} e h = toZ-ofZ w64 r (record { sfits = h }) ∙ e
 
 array-copy-out-column-sum : tie.Need-array-copy-out-column-sum
 array-copy-out-column-sum c = search needs

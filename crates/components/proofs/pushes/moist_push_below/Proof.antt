@@ -1,0 +1,24 @@
+-- `components::pushes::moist_push_below` meets its contract. The density and the two heights are small by their ranges.
+use native.Mathlib.Nat.{mul-assoc}
+use native.Mathlib.Omega.{arith}
+use borrow.Author.Needs.{needs}
+use Rattle.rules.specs.Forces.{moistPushBelow}
+use Rattle.rules.proofs.Accepted.{wall-within}
+use Rattle.components.proofs.pushes.moist_push_below.Statement.{statement}
+use Rattle.components.proofs.pushes.moist_push_below.Tie as tie
+
+field-requires : tie.Need-field-requires
+field-requires c κs = search needs
+
+sub-push : tie.Need-sub-push
+sub-push c = search needs
+
+push-requires : tie.Need-push-requires
+push-requires c κs = omega (arith, wall-within _ (c .before .pre .0))
+
+returns : tie.Need-returns
+unfolding moistPushBelow
+returns c = rw mul-assoc cc
+
+pub moist-push-below-spec : {M : Type 1} → statement M
+moist-push-below-spec = tie.close (tie.spec field-requires sub-push push-requires returns)

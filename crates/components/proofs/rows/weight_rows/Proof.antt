@@ -1,0 +1,119 @@
+-- `components::rows::weight_rows` meets its contract. The weights and the distances are within what a row takes.
+use native.Mathlib.Omega.{arith}
+use lib.Dec.{T}
+use borrow.Author.Needs.{needs}
+use Rattle.rules.specs.JobFile.{Wall, baseLength, wallFits}
+use Rattle.rules.specs.Forces.{weightRows}
+use Rattle.rules.proofs.Accepted.{Lies, WallWithin, wall-within, base-length}
+use Rattle.rules.proofs.Sizes.{Weighed, weighed}
+use Rattle.components.proofs.rows.weight_rows.Statement.{statement}
+use Rattle.components.proofs.rows.weight_rows.Tie as tie
+
+-- what bounds the weights and their distances
+known-of : (wall : Wall) → T (wallFits wall) → WallWithin wall × Weighed wall × Lies 200 11500 (baseLength wall)
+known-of wall fits = let w = wall-within wall fits in (w, weighed w, base-length w)
+
+base-length-requires : tie.Need-base-length-requires
+base-length-requires c κs = search needs
+
+mul-heel : tie.Need-mul-heel
+mul-heel c = let known = known-of _ (c .before .pre) in omega arith
+
+field-requires : tie.Need-field-requires
+field-requires c κs = search needs
+
+mul-heel-2 : tie.Need-mul-heel-2
+mul-heel-2 c = search needs
+
+sub-heel : tie.Need-sub-heel
+unfolding baseLength
+sub-heel c = let known = known-of _ (c .before .before .pre) in omega arith
+
+field-requires-2 : tie.Need-field-requires-2
+field-requires-2 c κs = search needs
+
+mul-stem : tie.Need-mul-stem
+mul-stem c = search needs
+
+field-requires-3 : tie.Need-field-requires-3
+field-requires-3 c κs = search needs
+
+mul-stem-2 : tie.Need-mul-stem-2
+mul-stem-2 c = search needs
+
+add-stem : tie.Need-add-stem
+add-stem c = search needs
+
+stem-weight-requires : tie.Need-stem-weight-requires
+stem-weight-requires c κs = search needs
+
+down-requires : tie.Need-down-requires
+down-requires c κs = let known = known-of _ (c .before .before .before .before .before .pre) in omega arith
+
+base-weight-requires : tie.Need-base-weight-requires
+base-weight-requires c κs = search needs
+
+mul-down : tie.Need-mul-down
+mul-down c =
+    let known = known-of _ (c .before .before .before .before .before .before .before .pre) in
+    omega arith
+
+down-requires-2 : tie.Need-down-requires-2
+down-requires-2 c κs =
+    let known = known-of _ (c .before .before .before .before .before .before .before .pre) in
+    omega arith
+
+saturated-weight-requires : tie.Need-saturated-weight-requires
+saturated-weight-requires c κs = search needs
+
+down-requires-3 : tie.Need-down-requires-3
+down-requires-3 c κs =
+    let known = known-of _ (c .before .before .before .before .before .before .before .before .before .pre) in
+    omega arith
+
+moist-weight-requires : tie.Need-moist-weight-requires
+moist-weight-requires c κs = search needs
+
+down-requires-4 : tie.Need-down-requires-4
+down-requires-4 c κs =
+    let known = known-of _ (c .before .before .before .before .before .before .before .before .before .before .before .pre) in
+    omega arith
+
+surcharge-weight-requires : tie.Need-surcharge-weight-requires
+surcharge-weight-requires c κs = search needs
+
+down-requires-5 : tie.Need-down-requires-5
+down-requires-5 c κs =
+    let known = known-of _ (c .before .before .before .before .before .before .before .before .before .before .before .before .before .pre) in
+    omega arith
+
+returns : tie.Need-returns
+unfolding weightRows
+returns c = cc
+
+pub weight-rows-spec : {M : Type 1} → statement M
+weight-rows-spec =
+    tie.close
+    (tie.spec
+    base-length-requires
+    mul-heel
+    field-requires
+    mul-heel-2
+    sub-heel
+    field-requires-2
+    mul-stem
+    field-requires-3
+    mul-stem-2
+    add-stem
+    stem-weight-requires
+    down-requires
+    base-weight-requires
+    mul-down
+    down-requires-2
+    saturated-weight-requires
+    down-requires-3
+    moist-weight-requires
+    down-requires-4
+    surcharge-weight-requires
+    down-requires-5
+    returns)

@@ -1,0 +1,30 @@
+-- `components::weights::base_weight` meets its contract. Its sides and density are small by their ranges.
+use native.Mathlib.Omega.{arith}
+use borrow.Author.Needs.{needs}
+use Rattle.rules.specs.JobFile.{baseLength}
+use Rattle.rules.specs.Forces.{baseWeight}
+use Rattle.rules.proofs.Accepted.{wall-within}
+use Rattle.components.proofs.weights.base_weight.Statement.{statement}
+use Rattle.components.proofs.weights.base_weight.Tie as tie
+
+base-length-requires : tie.Need-base-length-requires
+base-length-requires c κs = search needs
+
+field-requires : tie.Need-field-requires
+field-requires c κs = search needs
+
+field-requires-2 : tie.Need-field-requires-2
+field-requires-2 c κs = search needs
+
+slab-weight-requires : tie.Need-slab-weight-requires
+unfolding baseLength
+slab-weight-requires c κs = let w = wall-within _ (c .before .before .before .pre) in omega arith
+
+returns : tie.Need-returns
+unfolding baseWeight
+returns c = cc
+
+pub base-weight-spec : {M : Type 1} → statement M
+base-weight-spec =
+    tie.close
+    (tie.spec base-length-requires field-requires field-requires-2 slab-weight-requires returns)

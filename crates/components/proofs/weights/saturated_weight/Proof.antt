@@ -1,0 +1,35 @@
+-- `components::weights::saturated_weight` meets its contract. Its sides and density are small by their ranges.
+use native.Mathlib.Omega.{arith}
+use borrow.Author.Needs.{needs}
+use Rattle.rules.specs.JobFile.{wallHeight}
+use Rattle.rules.specs.Forces.{saturatedHeight, saturatedWeight}
+use Rattle.rules.proofs.Accepted.{wall-within}
+use Rattle.components.proofs.weights.saturated_weight.Statement.{statement}
+use Rattle.components.proofs.weights.saturated_weight.Tie as tie
+
+field-requires : tie.Need-field-requires
+field-requires c κs = search needs
+
+saturated-height-requires : tie.Need-saturated-height-requires
+saturated-height-requires c κs = search needs
+
+field-requires-2 : tie.Need-field-requires-2
+field-requires-2 c κs = search needs
+
+slab-weight-requires : tie.Need-slab-weight-requires
+unfolding saturatedHeight wallHeight
+slab-weight-requires c κs = let w = wall-within _ (c .before .before .before .pre) in omega arith
+
+returns : tie.Need-returns
+unfolding saturatedWeight
+returns c = cc
+
+pub saturated-weight-spec : {M : Type 1} → statement M
+saturated-weight-spec =
+    tie.close
+    (tie.spec
+    field-requires
+    saturated-height-requires
+    field-requires-2
+    slab-weight-requires
+    returns)

@@ -1,0 +1,22 @@
+-- `components::weights::slab_weight` meets its contract. Three small factors multiply.
+use native.Mathlib.Omega.{arith}
+use borrow.Author.Needs.{needs}
+use Rattle.whole.proofs.Factors.{two-fit, three-fit}
+use Rattle.components.proofs.weights.slab_weight.Statement.{statement}
+use Rattle.components.proofs.weights.slab_weight.Tie as tie
+
+mul-rounded-nearest : tie.Need-mul-rounded-nearest
+mul-rounded-nearest c = two-fit (omega arith)
+
+mul-rounded-nearest-2 : tie.Need-mul-rounded-nearest-2
+mul-rounded-nearest-2 c = three-fit (omega arith)
+
+rounded-nearest-requires : tie.Need-rounded-nearest-requires
+rounded-nearest-requires c κs = search needs
+
+returns : tie.Need-returns
+returns c = search needs
+
+pub slab-weight-spec : {M : Type 1} → statement M
+slab-weight-spec =
+    tie.close (tie.spec mul-rounded-nearest mul-rounded-nearest-2 rounded-nearest-requires returns)

@@ -1,0 +1,28 @@
+-- `components::weights::stem_weight` meets its contract. Its sides and density are small by their ranges.
+use native.Mathlib.Omega.{arith}
+use borrow.Author.Needs.{needs}
+use Rattle.rules.specs.Forces.{stemWeight}
+use Rattle.rules.proofs.Accepted.{wall-within}
+use Rattle.components.proofs.weights.stem_weight.Statement.{statement}
+use Rattle.components.proofs.weights.stem_weight.Tie as tie
+
+field-requires : tie.Need-field-requires
+field-requires c κs = search needs
+
+field-requires-2 : tie.Need-field-requires-2
+field-requires-2 c κs = search needs
+
+field-requires-3 : tie.Need-field-requires-3
+field-requires-3 c κs = search needs
+
+slab-weight-requires : tie.Need-slab-weight-requires
+slab-weight-requires c κs = let w = wall-within _ (c .before .before .before .pre) in omega arith
+
+returns : tie.Need-returns
+unfolding stemWeight
+returns c = cc
+
+pub stem-weight-spec : {M : Type 1} → statement M
+stem-weight-spec =
+    tie.close
+    (tie.spec field-requires field-requires-2 field-requires-3 slab-weight-requires returns)

@@ -1,0 +1,29 @@
+-- `components::weights::surcharge_weight` meets its contract. Two small factors multiply.
+use native.Mathlib.Omega.{arith}
+use borrow.Author.Needs.{needs}
+use Rattle.rules.specs.Forces.{surchargeWeight}
+use Rattle.rules.proofs.Accepted.{wall-within}
+use Rattle.whole.proofs.Factors.{two-fit}
+use Rattle.components.proofs.weights.surcharge_weight.Statement.{statement}
+use Rattle.components.proofs.weights.surcharge_weight.Tie as tie
+
+field-requires : tie.Need-field-requires
+field-requires c κs = search needs
+
+field-requires-2 : tie.Need-field-requires-2
+field-requires-2 c κs = search needs
+
+mul-rounded-nearest : tie.Need-mul-rounded-nearest
+mul-rounded-nearest c = two-fit (omega (arith, wall-within _ (c .before .before .pre)))
+
+rounded-nearest-requires : tie.Need-rounded-nearest-requires
+rounded-nearest-requires c κs = search needs
+
+returns : tie.Need-returns
+unfolding surchargeWeight
+returns c = cc
+
+pub surcharge-weight-spec : {M : Type 1} → statement M
+surcharge-weight-spec =
+    tie.close
+    (tie.spec field-requires field-requires-2 mul-rounded-nearest rounded-nearest-requires returns)

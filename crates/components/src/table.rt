@@ -1,0 +1,97 @@
+// Document 01, "Forces": the component table, a row for each component: the weights, the pushes, the dead part of every load and then the live
+// part of every load.
+use crate::rows;
+use crate::rows::PUSHES;
+use crate::rows::PushRows;
+use crate::rows::Row;
+use crate::rows::WEIGHTS;
+use crate::rows::WeightRows;
+use record::DEAD;
+use record::DIRECTION;
+use record::LIVE;
+use record::Load;
+use record::Loads;
+use record::MOST_LOADS_ON_WALL;
+use record::POSITION;
+use record::WATER_HEIGHT;
+use record::Wall;
+ghost use mathlib.Core.Path.{_≡_};
+ghost use mathlib.Core.List.{[]};
+ghost use Prim.Native.Nat.{_≤_, _<_, _^_};
+ghost use lib.Dec.{T};
+ghost use lib.ListN.{getD};
+ghost use Rattle.rules.specs.Answered.{fits};
+ghost use Rattle.rules.specs.Forces.{table};
+ghost use Rattle.components.specs.Faces.{rowsOf};
+ghost use Rattle.components.specs.Tables.{components, LoadSmall, LoadsSmall, partRow, rowsIn};
+
+pub const FIRST_DEAD: usize = WEIGHTS + PUSHES;
+
+pub const FIRST_LIVE: usize = FIRST_DEAD + MOST_LOADS_ON_WALL;
+
+pub const COMPONENTS: usize = FIRST_LIVE + MOST_LOADS_ON_WALL;
+
+pub type Table = [Row; COMPONENTS];
+
+fn wide(n: u32) -> u64
+    ensures { λ r. ⌜ (r ≡ n) × (r < 2 ^ 32) ⌝ }
+{
+    n as u64
+}
+
+// The dead or the live part of a load, down or across.
+fn load_row(load: Load, part: usize) -> Row
+    requires { ⌜ (part < 4) × LoadSmall load ⌝ }
+    ensures { λ r. ⌜ r ≡ partRow part load ⌝ }
+{
+    let force = wide(load[part]);
+    let sixfold = 6 * wide(load[POSITION]);
+    if load[DIRECTION] == 0 {
+        rows::down(force, sixfold)
+    } else {
+        rows::across(force, sixfold)
+    }
+}
+
+// The row at an index.
+fn row_at(weights: WeightRows, pushes: PushRows, loads: Loads, i: usize) -> Row
+    requires { ⌜ (i < components) × LoadsSmall loads ⌝ }
+    ensures { λ r. ⌜ r ≡ getD (rowsIn weights pushes loads) i [] ⌝ }
+{
+    if i < WEIGHTS {
+        return weights[i];
+    }
+    if i < FIRST_DEAD {
+        return pushes[i - WEIGHTS];
+    }
+    if i < FIRST_LIVE {
+        return load_row(loads[i - FIRST_DEAD], DEAD);
+    }
+    load_row(loads[i - FIRST_LIVE], LIVE)
+}
+
+// The rows one behind the other.
+pub fn filled(weights: WeightRows, pushes: PushRows, loads: Loads) -> Table
+    requires { ⌜ LoadsSmall loads ⌝ }
+    ensures { λ r. ⌜ r ≡ rowsIn weights pushes loads ⌝ }
+{
+    let mut table = [[0i64; 3]; COMPONENTS];
+    for i in 0..COMPONENTS {
+        table[i] = row_at(weights, pushes, loads, i);
+    }
+    table
+}
+
+// A wall's table at a coefficient.
+pub fn of_wall(wall: Wall, loads: Loads, k: u64) -> Table
+    requires { ⌜ T (fits wall loads) × (k ≤ 1000) ⌝ }
+    ensures { λ r. ⌜ r ≡ rowsOf (table k wall loads) ⌝ }
+{
+    let pushes = rows::push_rows(
+        wall,
+        k,
+        record::wall_height(wall),
+        record::field(wall, WATER_HEIGHT),
+    );
+    filled(rows::weight_rows(wall), pushes, loads)
+}

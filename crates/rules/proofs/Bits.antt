@@ -1,0 +1,292 @@
+-- Document 01, "The sheet line": failures stand in one byte, one bit for each check. A bit is set just where document 01's own words of its check hold,
+-- and no other bit is ever set.
+use mathlib.Core.Path.{_≡_, refl, _∙_}
+use mathlib.Core.Logic.{_↔_, Iff·trans, _≢_, _⊎_, inl, inr, ⊎-elim, dite}
+use mathlib.Core.Bool.{Bool, true, false, not, _&&_, _||_, cond, and-assoc}
+use mathlib.Core.List.{List, [], _∷_, map}
+use Prim.Native.Nat.{ℕ, zero, suc, _+_, _*_, _/_, _%_, _^_, _≤_, _<_, max}
+use native.Mathlib.Nat.{div-div-eq-div-mul, zero-div}
+use native.Mathlib.Decide.{decLt}
+use native.Mathlib.Omega.{arith}
+use borrow.Author.Tests.{eq-eqb, ne-eqb, le-ltb}
+use lib.Arith.{lt→nleb, le→nltb}
+use lib.Dec.{T, ltb, leb, eqb, T-not, ltb→lt, lt→ltb, nltb→le, nleb→lt}
+use lib.IntN.{ℤ, pos}
+use lib.ListN.{length, getD}
+use lib.Signed.{ltZ, _<ℤ_, ltZ-yes}
+use Rattle.whole.specs.Rounding.{roundedUp}
+use Rattle.rules.specs.declared.Check.{Check}
+use Rattle.rules.specs.declared.Check.the-variants.{Slides, Overturns, OverAllowable, NoServiceBlock, NoFactoredBlock, ToeSteel, StemSteel, Sheared}
+use Rattle.rules.specs.declared.Kind.{Kind}
+use Rattle.rules.specs.declared.Kind.the-variants.{Full, FromToe, FromHeel, NoBlock}
+use Rattle.rules.specs.declared.Section.{Section}
+use Rattle.rules.specs.declared.Member.{Member}
+use Rattle.rules.specs.declared.Totals.{Totals}
+use Rattle.rules.specs.JobFile.{Wall, Load, kind, toeLength, allowableBearing}
+use Rattle.rules.specs.Forces.{squared, service, passive, friction, isPropped, slidingUnder, slidingOf}
+use Rattle.rules.specs.Bearing.{serviceScale, reported, peak, noBlock, ofKind, blockOf, given, blockUnder, serviceBlock, factoredBlock, isGivenKind}
+use Rattle.rules.specs.ToeAndStem.{toeWorked, toeAction, stemAction, toeSection, stemSection, twiceDepth, needsCompression, providedArea, requiredArea, steelFails, shearFails, memberUnder, noMember, toeUnder, toe, stem}
+use Rattle.rules.specs.SheetLine.{fails, bit, checks, bitsAmong, failures, isSet}
+
+-- ---- binary digits
+
+-- a number by its digits, the lowest first
+abbrev byDigits : List Bool → ℕ
+byDigits [] = 0
+byDigits (d ∷ ds) = cond d 1 0 + 2 * byDigits ds
+
+at-most-one : (d : Bool) → cond d 1 0 ≤ 1
+at-most-one true = omega arith
+at-most-one false = omega arith
+
+doubled : (k : ℕ) → 2 ^ suc k ≡ 2 * 2 ^ k
+doubled k = omega arith
+
+digit : (ds : List Bool) (k : ℕ) → byDigits ds / 2 ^ k % 2 ≡ cond (getD ds k false) 1 0
+digit [] k = rw (zero-div (2 ^ k))
+digit (d ∷ ds) zero = omega (arith, at-most-one d)
+digit (d ∷ ds) (suc k) =
+    let half : byDigits (d ∷ ds) / 2 ≡ byDigits ds = omega (arith, at-most-one d) in
+    rw (doubled, ← div-div-eq-div-mul, half) (digit ds k)
+
+digits-below : (ds : List Bool) → byDigits ds < 2 ^ length ds
+digits-below [] = omega arith
+digits-below (d ∷ ds) = omega (arith, at-most-one d, doubled (length ds), digits-below ds)
+
+-- ---- the bits of the checks that a test picks
+
+-- the bits of checks are n, 2n, 4n and so on
+abbrev Doubling : ℕ → List Check → Type 0
+Doubling n [] = Unit
+Doubling n (check ∷ rest) = (bit check ≡ n) × Doubling (2 * n) rest
+
+doubling : Doubling 1 checks
+doubling = (refl, (refl, (refl, (refl, (refl, (refl, (refl, (refl, tt))))))))
+
+module _ (picks : Check → Bool) where
+  -- so the bits that are picked are digits, each in its place
+  digits-of : (n : ℕ) (list : List Check) → Doubling n list → bitsAmong list picks ≡ n * byDigits (map picks list)
+  unfolding bitsAmong
+  digits-of n [] h = omega arith
+  digits-of n (check ∷ rest) h = rw (h .0) (omega (arith, weighed (picks check), digits-of (2 * n) rest (h .1)))
+    where
+      weighed : (d : Bool) → cond d n 0 ≡ n * cond d 1 0
+      weighed true = omega arith
+      weighed false = omega arith
+
+  -- each digit tells whether the check in its place is picked
+  digit-picked : (k : ℕ) → eqb (bitsAmong checks picks / 2 ^ k % 2) 1 ≡ getD (map picks checks) k false
+  digit-picked k =
+      let e : bitsAmong checks picks ≡ byDigits (map picks checks) = omega (arith, digits-of 1 checks doubling) in
+      rw (e, digit (map picks checks) k) (is-one (getD (map picks checks) k false))
+    where
+      is-one : (d : Bool) → eqb (cond d 1 0) 1 ≡ d
+      is-one true = refl
+      is-one false = refl
+
+  bit-picked : (check : Check) → isSet (bitsAmong checks picks) check ≡ picks check
+  unfolding isSet
+  bit-picked Slides = digit-picked 0
+  bit-picked Overturns = digit-picked 1
+  bit-picked OverAllowable = digit-picked 2
+  bit-picked NoServiceBlock = digit-picked 3
+  bit-picked NoFactoredBlock = digit-picked 4
+  bit-picked ToeSteel = digit-picked 5
+  bit-picked StemSteel = digit-picked 6
+  bit-picked Sheared = digit-picked 7
+
+  -- a digit that is set is that of a check that is picked
+  check-at : (n : ℕ) (list : List Check) → Doubling n list → (k : ℕ) → T (getD (map picks list) k false)
+      → (check : Check) × (bit check ≡ n * 2 ^ k) × T (picks check)
+  check-at n [] h k t = absurd t
+  check-at n (check ∷ rest) h zero t = (check, omega arith, t)
+  check-at n (check ∷ rest) h (suc k) t =
+      let e : n * 2 ^ suc k ≡ 2 * n * 2 ^ k = rw doubled (omega arith) in rw e (check-at (2 * n) rest (h .1) k t)
+
+-- a byte has the bits of the checks that a test picks, and no other
+pub record Tells (byte : ℕ) (picks : Check → Bool) : Type 0 where
+  pub one-byte : byte < 256
+  pub each : (check : Check) → isSet byte check ≡ picks check
+  pub only : (k : ℕ) → byte / 2 ^ k % 2 ≡ 1 → (check : Check) × (bit check ≡ 2 ^ k) × T (picks check)
+
+pub tells : (picks : Check → Bool) → Tells (bitsAmong checks picks) picks
+tells picks =
+    record {
+      one-byte = omega (arith, digits-of picks 1 checks doubling, digits-below (map picks checks));
+      each = bit-picked picks;
+      only = λ k e. let found = check-at picks 1 checks doubling k (rw (← digit-picked picks k, e) tt) in (found .0, omega arith, found .2);
+    }
+
+-- ---- what document 01 says of each check
+
+-- steel fails under a moment M: compression steel would be needed, or less is provided than required
+abbrev pub SteelShort : Section → ℕ → Type 0
+SteelShort s M = (39 * s .concrete * squared (twiceDepth s) < M) ⊎ (providedArea (s .bar) (s .spacing) < requiredArea s M)
+
+-- a shear breaks one of its three tests
+abbrev pub ShearBroken : Section → ℕ → Type 0
+ShearBroken s shear =
+    let D = twiceDepth s in
+    (s .stress * D ≤ 2 * shear) ⊎ (5000 * D < 2 * shear) ⊎ (64 * s .concrete * squared (1000 * D) < 100 * squared (2 * shear))
+
+-- the toe is checked: there is one, and a factored block under it
+abbrev pub ToeChecked : Wall → List Load → Type 0
+ToeChecked wall loads = (0 < toeLength wall) × (factoredBlock wall loads .kind ≢ NoBlock)
+
+abbrev pub Stated : Check → Wall → List Load → Type 0
+Stated Slides wall loads = (kind wall ≢ 1) × (pos (passive wall + friction wall loads) <ℤ service wall loads .horizontal)
+Stated Overturns wall loads = service wall loads .restoring <ℤ service wall loads .overturning
+Stated OverAllowable wall loads =
+    (1000 * allowableBearing wall < reported serviceScale (serviceBlock wall loads .toe))
+    ⊎ (1000 * allowableBearing wall < reported serviceScale (serviceBlock wall loads .heel))
+Stated NoServiceBlock wall loads = serviceBlock wall loads .kind ≡ NoBlock
+Stated NoFactoredBlock wall loads = factoredBlock wall loads .kind ≡ NoBlock
+Stated ToeSteel wall loads = ToeChecked wall loads × SteelShort (toeSection wall) (toeAction wall (factoredBlock wall loads) .moment)
+Stated StemSteel wall loads = SteelShort (stemSection wall) (stemAction wall loads .moment)
+Stated Sheared wall loads =
+    (ToeChecked wall loads × ShearBroken (toeSection wall) (toeAction wall (factoredBlock wall loads) .shear))
+    ⊎ ShearBroken (stemSection wall) (stemAction wall loads .shear)
+
+-- ---- tests and the facts that they decide
+
+-- a test is passed just where a fact holds
+record Passed (test : Bool) (Fact : Type 0) : Type 0 where
+  passed : T test ↔ Fact
+
+-- it fails just where a fact holds
+record Failed (test : Bool) (Fact : Type 0) : Type 0 where
+  failed : T (not test) ↔ Fact
+
+is-less : {m n : ℕ} → Passed (ltb m n) (m < n)
+is-less {m} {n} = record { passed = (ltb→lt m n, lt→ltb m n) }
+
+is-lessℤ : {a b : ℤ} → Passed (ltZ a b) (a <ℤ b)
+is-lessℤ = record { passed = (ltZ-yes, λ h. h .lt) }
+
+less-than-either : {n a b : ℕ} → Passed (ltb n (max a b)) ((n < a) ⊎ (n < b))
+less-than-either {n} {a} {b} =
+    let less : (n < max a b) ↔ ((n < a) ⊎ (n < b)) = (λ h. dite (decLt n a) inl (λ k. inr (omega arith)), ⊎-elim (λ h. omega arith) (λ h. omega arith)) in
+    record { passed = Iff·trans (is-less .passed) less }
+
+not-less : {m n : ℕ} → Failed (ltb m n) (n ≤ m)
+not-less {m} {n} = record { failed = (nltb→le m n, le→nltb m n) }
+
+not-most : {m n : ℕ} → Failed (leb m n) (n < m)
+not-most {m} {n} = record { failed = (nleb→lt m n, lt→nleb m n) }
+
+not-equal : {m n : ℕ} → Failed (eqb m n) (m ≢ n)
+not-equal {m} {n} = record { failed = (λ t e. T-not (eqb m n) t (rw (eq-eqb m n e) tt), λ h. rw (ne-eqb m n h) tt) }
+
+not-given : {k : Kind} → Failed (isGivenKind k) (k ≡ NoBlock)
+not-given {k} = record { failed = (none k, λ e. rw e tt) }
+  where
+    none : (k : Kind) → T (not (isGivenKind k)) → k ≡ NoBlock
+    none Full t = absurd t
+    none FromToe t = absurd t
+    none FromHeel t = absurd t
+    none NoBlock t = refl
+
+-- tests made of tests
+module _ {A : Type 0} where
+  negated : {a : Bool} → Failed a A → Passed (not a) A
+  negated f = record { passed = f .failed }
+
+  unless : {a : Bool} → Failed a A → Passed a (A → ⊥)
+  unless {a = true} f = record { passed = (λ t. f .failed .1, λ n. tt) }
+  unless {a = false} f = record { passed = (λ t. absurd t, λ n. n (f .failed .0 tt)) }
+
+module _ {A B : Type 0} where
+  or : {a b : Bool} → Passed a A → Passed b B → Passed (a || b) (A ⊎ B)
+  or {a = true} f g = record { passed = (λ t. inl (f .passed .0 tt), λ s. tt) }
+  or {a = false} f g = record { passed = (λ t. inr (g .passed .0 t), ⊎-elim (λ x. absurd (f .passed .1 x)) (g .passed .1)) }
+
+  and : {a b : Bool} → Passed a A → Passed b B → Passed (a && b) (A × B)
+  and {a = true} f g = record { passed = (λ t. (f .passed .0 tt, g .passed .0 t), λ p. g .passed .1 (p .1)) }
+  and {a = false} f g = record { passed = (λ t. absurd t, λ p. f .passed .1 (p .0)) }
+
+  not-both : {a b : Bool} → Failed a A → Failed b B → Failed (a && b) (A ⊎ B)
+  not-both {a = true} f g = record { failed = or (negated f) (negated g) .passed }
+  not-both {a = false} f g = record { failed = or (negated f) (negated g) .passed }
+
+-- ---- each check
+
+steel-short : (s : Section) (M : ℕ) → Passed (steelFails s M) (SteelShort s M)
+unfolding steelFails needsCompression
+steel-short s M = or is-less is-less
+
+shear-broken : (s : Section) (shear : ℕ) → Passed (shearFails s shear) (ShearBroken s shear)
+unfolding shearFails
+shear-broken s shear = rw and-assoc (negated (not-both not-less (not-both not-most not-most)))
+
+-- the checks of a member that may not be there: neither is made of one that isn't
+steel-if : (b : Bool) (m : Member) → cond b m noMember .steel .fails ≡ (b && m .steel .fails)
+steel-if true m = refl
+steel-if false m = refl
+
+shear-if : (b : Bool) (m : Member) → cond b m noMember .sheared ≡ (b && m .sheared)
+shear-if true m = refl
+shear-if false m = refl
+
+module _ (wall : Wall) (loads : List Load) where
+  toe-checked : Passed (toeWorked wall (factoredBlock wall loads)) (ToeChecked wall loads)
+  unfolding toeWorked
+  toe-checked = and is-less (unless not-given)
+
+  -- so each check's test is passed just where its words hold
+  decided : (check : Check) → Passed (fails check wall loads) (Stated check wall loads)
+  unfolding fails slidingOf slidingUnder isPropped peak toe toeUnder stem memberUnder
+  decided Slides = and (negated not-equal) is-lessℤ
+  decided Overturns = is-lessℤ
+  decided OverAllowable = less-than-either
+  decided NoServiceBlock = negated not-given
+  decided NoFactoredBlock = negated not-given
+  decided ToeSteel = rw steel-if (and toe-checked (steel-short _ _))
+  decided StemSteel = steel-short _ _
+  decided Sheared = rw shear-if (or (and toe-checked (shear-broken _ _)) (shear-broken _ _))
+
+  pub stated : (check : Check) → T (fails check wall loads) ↔ Stated check wall loads
+  stated check = decided check .passed
+
+  -- the checks that fail
+  abbrev failing : Check → Bool
+  failing check = fails check wall loads
+
+  -- a check's bit is set just where its words hold
+  pub bits : (check : Check) → T (isSet (failures wall loads) check) ↔ Stated check wall loads
+  unfolding failures
+  bits check = rw (tells failing .each check) (stated check)
+
+  -- failures are one byte
+  pub one-byte : failures wall loads < 256
+  unfolding failures
+  one-byte = tells failing .one-byte
+
+  -- and a bit that is set is that of a check whose words hold
+  pub nothing-else : (k : ℕ) → failures wall loads / 2 ^ k % 2 ≡ 1 → (check : Check) × (bit check ≡ 2 ^ k) × Stated check wall loads
+  unfolding failures
+  nothing-else k e = let found = tells failing .only k e in (found .0, found .1, stated (found .0) .0 (found .2))
+
+-- ---- a block that isn't given
+
+-- it has no figure
+nothing : (b : Bool) (k : Kind) (R M6 l : ℤ) → cond b (ofKind k R M6 l) noBlock .kind ≡ NoBlock → cond b (ofKind k R M6 l) noBlock ≡ noBlock
+unfolding ofKind
+nothing false k R M6 l e = refl
+nothing true Full R M6 l e = cc
+nothing true FromToe R M6 l e = cc
+nothing true FromHeel R M6 l e = cc
+nothing true NoBlock R M6 l e = refl
+
+-- its pressures are 0
+pub no-pressure : (scale : ℕ) (t : Totals) (wall : Wall) → blockUnder scale t wall .kind ≡ NoBlock
+    → (reported scale (blockUnder scale t wall .toe) ≡ 0) × (reported scale (blockUnder scale t wall .heel) ≡ 0)
+unfolding blockUnder given blockOf reported roundedUp
+no-pressure scale t wall e = rw (nothing _ _ _ _ _ e) (omega arith)
+
+-- so no service pressure is over the allowable where no service block is given
+pub clear-without-block : (wall : Wall) (loads : List Load) → T (isSet (failures wall loads) NoServiceBlock)
+    → isSet (failures wall loads) OverAllowable ≡ false
+unfolding failures serviceBlock fails peak
+clear-without-block wall loads t =
+    let none = no-pressure serviceScale (service wall loads) wall (bits wall loads NoServiceBlock .0 t) in
+    tells (failing wall loads) .each OverAllowable ∙ rw (none .0, none .1) (le-ltb (1000 * allowableBearing wall) 0 (omega arith))

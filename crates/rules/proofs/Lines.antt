@@ -1,0 +1,177 @@
+-- Every number of an accepted wall's line is small, and so fits 64 bits.
+use mathlib.Core.Path.{refl}
+use mathlib.Core.Bool.{Bool, true, false, _||_, cond}
+use mathlib.Core.List.{List, [], _∷_}
+use Prim.Native.Nat.{ℕ, _-_, _*_, _≤_}
+use native.Mathlib.Nat.{mul-le-mul}
+use native.Mathlib.Omega.{arith}
+use lib.Dec.{T, ltb, le→leb, lit<}
+use lib.IntN.{pos, natAbs}
+use lib.ListN.{length, length-append}
+use lib.Signed.{_≤ℤ_}
+use Rattle.whole.specs.Parts.{aboveZero}
+use Rattle.whole.specs.Rounding.{roundedUp}
+use Rattle.whole.proofs.Integer.{case, ≤ℤ-of-<ℤ, pos-≤ℤ, sub-<ℤ, above-less, abs-less}
+use Rattle.whole.proofs.Lists.{All, all-joined}
+use Rattle.whole.proofs.Rounded.{up-within}
+use Rattle.rules.specs.declared.Block.{Block}
+use Rattle.rules.specs.declared.Check.{Check}
+use Rattle.rules.specs.declared.Section.{Section}
+use Rattle.rules.specs.declared.Action.{Action}
+use Rattle.rules.specs.declared.Member.{Member}
+use Rattle.rules.specs.JobFile.{Wall, Load, stemHeight, toeLength, baseThickness, restCoefficient, baseLength, wallHeight, isDown, position, deadLoad, liveLoad, reach}
+use Rattle.rules.specs.Forces.{saturatedHeight, Component, deadPush, livePush, across, pushRows, horizontal, moment, columnSum, tenths, passive, frictionUnder, lastingWeight, isPropped, slidingUnder, slidingOf, proppingForce}
+use Rattle.rules.specs.Bearing.{serviceScale, greatestPeak, blockUnder, serviceBlock, factoredBlock}
+use Rattle.rules.specs.ToeAndStem.{pressureAt, twiceArm, toeWorked, shearOfBearing, momentOfBearing, toeAction, stemLoadRows, stemLoadTable, stemTable, stemAction, toeSection, stemSection, isWorkable, memberUnder, toeUnder, toe, stem}
+use Rattle.rules.specs.SheetLine.{fails, bit, checks, bitsAmong, failures, line}
+use Rattle.rules.proofs.Accepted.{WallWithin, wall-within, wall-height, LoadWithin, load-within}
+use Rattle.rules.proofs.Examined.{AllFit, Fit}
+use Rattle.rules.proofs.Pressures.{Pressable, WithinPeak, given-most, factored-pressable, reported-most, pressure-most}
+use Rattle.rules.proofs.Sections.{toe-workable, stem-workable, required-most}
+use Rattle.rules.proofs.Sizes.{Sound, push, pushes-sound, Small, Moderate, each, row-at, column-moderate, service-sized}
+
+-- a member's figures are small
+pub record SmallMember (m : Member) : Type 0 where
+  pub shear : Small (m .action .shear)
+  pub moment : Small (m .action .moment)
+  pub required : Small (m .steel .required)
+
+-- those of a workable section are where what acts on it is
+member-small : (s : Section) → T (isWorkable s) → (a : Action) → Small (a .shear) × Small (a .moment) → SmallMember (memberUnder s a)
+unfolding memberUnder
+member-small s t a h = record { shear = h .0; moment = h .1; required = required-most s t (a .moment) }
+
+-- a division rounded up is where what is divided is
+quotient-small : (a d : ℕ) → Small a → Small (roundedUp a d)
+quotient-small a d h = omega (arith, up-within a d)
+
+-- ---- the toe
+
+-- twice its arm; the arm ends on the base, and so does the toe
+pub arm-most : {wall : Wall} → WallWithin wall → (twiceArm wall ≤ 11500) × (twiceArm wall ≤ 2 * baseLength wall) × (2 * toeLength wall ≤ 2 * baseLength wall)
+unfolding twiceArm baseLength
+arm-most w = omega arith
+
+module _ (wall : Wall) (b : Block) (w : WallWithin wall) (p : Pressable (baseLength wall) b) where
+  pressed : (twice : ℕ) → twice ≤ 2 * baseLength wall → pressureAt wall b twice ≤ greatestPeak
+  unfolding pressureAt
+  pressed = pressure-most p
+
+  -- what presses on it, less its own weight
+  pub toe-action-small : Small (toeAction wall b .shear) × Small (toeAction wall b .moment)
+  unfolding toeAction shearOfBearing momentOfBearing
+  toe-action-small =
+      let arm = arm-most w in
+      let long = w .toe-length .1 in
+      let square = mul-le-mul (arm .0) (arm .0) in
+      let start = pressed 0 (omega arith) in
+      let end = pressed (2 * toeLength wall) (arm .2) in
+      let middle = pressed (twiceArm wall) (arm .1) in
+      let shear : Small (shearOfBearing wall b) = quotient-small _ _ (omega (arith, mul-le-mul start long, mul-le-mul end long)) in
+      let turn : Small (momentOfBearing wall b) = quotient-small _ _ (omega (arith, mul-le-mul start square, mul-le-mul middle square)) in
+      omega arith
+
+pub toe-small : (wall : Wall) (loads : List Load) → Fit wall loads → SmallMember (toe wall loads)
+unfolding toe toeUnder
+toe-small wall loads fit =
+    let b = factoredBlock wall loads in
+    let acts = toe-action-small wall b (wall-within wall (fit .wall-fits)) (factored-pressable wall loads fit) in
+    case (toeWorked wall b) _ _ SmallMember (λ t. member-small (toeSection wall) (toe-workable wall (fit .wall-fits)) _ acts)
+    (λ t. record { shear = omega arith; moment = omega arith; required = omega arith })
+
+-- ---- the stem
+
+-- no more rows than so many, and all of them sound; a push is so on any base
+abbrev pub Rows : ℕ → List Component → Type 0
+Rows most rows = All (Sound 0 0) rows × (length rows ≤ most)
+
+module _ (wall : Wall) (w : WallWithin wall) where
+  -- a load has two pushes, or nothing that reaches the stem
+  stem-load-sound : (load : Load) → LoadWithin wall load → Rows 2 (stemLoadRows wall load)
+  unfolding stemLoadRows reach
+  stem-load-sound load v = go (isDown load) (ltb (position load) (baseThickness wall)) (v .place)
+    where
+      high : ℕ
+      high = 6 * (position load - baseThickness wall)
+
+      go : (d below : Bool) → position load ≤ cond d (baseLength wall) (wallHeight wall)
+          → Rows 2 (cond (d || below) [] (across deadPush (deadLoad load) high ∷ across livePush (liveLoad load) high ∷ []))
+      go true below far = (tt, omega arith)
+      go false true far = (tt, omega arith)
+      go false false far = ((push refl (omega (arith, wall-height w)), (push refl (omega (arith, wall-height w)), tt)), omega arith)
+
+  stem-loads-sound : (loads : List Load) → AllFit wall loads → Rows (2 * length loads) (stemLoadTable wall loads)
+  unfolding stemLoadTable
+  stem-loads-sound [] all = (tt, omega arith)
+  stem-loads-sound (load ∷ rest) all =
+      let one = stem-load-sound load (load-within wall load (all .0)) in
+      let others = stem-loads-sound rest (all .1) in
+      (all-joined (Sound 0 0) (stemLoadRows wall load) (stemLoadTable wall rest) (one .0) (others .0), rw length-append (omega arith))
+
+module _ (wall : Wall) (loads : List Load) (fit : Fit wall loads) where
+  within : WallWithin wall
+  within = wall-within wall (fit .wall-fits)
+
+  -- the rows of its table: five pushes and two for each load; and its columns
+  pub stem-rows : Rows 21 (stemTable wall loads)
+  unfolding stemTable pushRows saturatedHeight wallHeight
+  stem-rows =
+      let K = restCoefficient wall in
+      let h = stemHeight wall in
+      let hw = saturatedHeight wall in
+      let behind = pushes-sound 0 0 within K h hw (within .rest .1) (omega (arith, within .stem-height)) (omega (arith, within .water)) in
+      let under = stem-loads-sound wall within loads (fit .loads-fit) in
+      (all-joined (Sound 0 0) (pushRows wall K h hw) (stemLoadTable wall loads) behind (under .0), omega (arith, fit .few))
+
+  pub stem-column : (j : ℕ) → Moderate (columnSum tenths j (stemTable wall loads))
+  stem-column =
+      let rows = row-at 0 0 (stemTable wall loads) (stem-rows .0) in
+      column-moderate (stemTable wall loads) rows (omega (arith, stem-rows .1)) tenths (each _ (omega (arith, le→leb)))
+
+  pub stem-small : SmallMember (stem wall loads)
+  unfolding stem stemAction
+  stem-small =
+      let part : (j : ℕ) → Small (aboveZero (columnSum tenths j (stemTable wall loads))) = λ j. above-less _ (lit< tt) (stem-column j .1) in
+      member-small (stemSection wall) (stem-workable wall (fit .wall-fits)) _
+      (quotient-small _ 10 (part horizontal), quotient-small _ (6 * 10) (part moment))
+
+-- ---- the checks
+
+-- no more bits are set than all of them
+bits-most : (cs : List Check) (picks : Check → Bool) → bitsAmong cs picks ≤ bitsAmong cs (λ c. true)
+unfolding bitsAmong
+bits-most [] picks = omega arith
+bits-most (c ∷ cs) picks =
+    let own = case (picks c) (bit c) 0 (λ n. n ≤ bit c) (λ t. omega arith) (λ t. omega arith) in
+    omega (arith, bits-most cs picks)
+
+pub failures-most : (wall : Wall) (loads : List Load) → failures wall loads ≤ 255
+unfolding failures bitsAmong
+failures-most wall loads = bits-most checks (λ check. fails check wall loads)
+
+-- ---- the line
+
+-- a prop takes no more than H
+propping-small : (wall : Wall) (loads : List Load) → Fit wall loads → Small (proppingForce wall loads)
+unfolding slidingOf slidingUnder
+propping-small wall loads fit =
+    let passive-force : pos 0 ≤ℤ pos (passive wall) = pos-≤ℤ .1 (omega arith) in
+    let friction : pos 0 ≤ℤ pos (frictionUnder wall (lastingWeight wall loads)) = pos-≤ℤ .1 (omega arith) in
+    let H = service-sized wall loads fit .horizontal .1 in
+    case (isPropped wall) _ _ Small (λ t. above-less _ (lit< tt) (sub-<ℤ friction (sub-<ℤ passive-force H))) (λ t. omega arith)
+
+-- the pressures that the service block reports
+pub service-most : (wall : Wall) (loads : List Load) → WithinPeak serviceScale (serviceBlock wall loads)
+unfolding serviceBlock blockUnder
+service-most wall loads = given-most serviceScale _
+
+-- every number of an accepted wall's line is small, where the wall's own number is
+pub line-small : {wall : Wall} {loads : List Load} (n : ℕ) → Small n → Fit wall loads → All (λ z. Small (natAbs z)) (line n wall loads)
+unfolding line
+line-small {wall} {loads} n h fit =
+    let s = service-sized wall loads fit in
+    let R = abs-less (≤ℤ-of-<ℤ (s .some)) (s .vertical) in
+    let H = abs-less (s .horizontal .0) (s .horizontal .1) in
+    let served = service-most wall loads in
+    let pressed = reported-most (factored-pressable wall loads fit) in
+    omega (arith, failures-most wall loads, propping-small wall loads fit, s .moment, toe-small wall loads fit, stem-small wall loads fit)

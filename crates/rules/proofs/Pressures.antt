@@ -1,0 +1,158 @@
+-- What the factored block of an accepted wall is at a point: its figures are not negative and small, and no pressure is above the greatest peak.
+use mathlib.Core.Path.{_≡_, refl}
+use mathlib.Core.List.{List}
+use Prim.Native.Nat.{ℕ, _+_, _-_, _*_, _≤_, _<_}
+use native.Mathlib.Nat.{mul-le-mul, mul-le-mul-left, mul-le-mul-right, le-trans}
+use native.Mathlib.Omega.{arith}
+use lib.Dec.{T, leb, leb→le}
+use lib.IntN.{ℤ, pos, _+ℤ_, _*ℤ_}
+use lib.Signed.{_≤ℤ_, _<ℤ_, ≤ℤ-refl, leZ-yes}
+use Rattle.whole.specs.Parts.{aboveZero}
+use Rattle.whole.proofs.Integer.{case, itself, diff-mul, above-diff, above-most, above-sub, lt-parts, pos-≤ℤ, pos-<ℤ, *ℤ-nonneg, Whole, whole, is-whole, Above, above, is-above}
+use Rattle.whole.proofs.Rounded.{up-enough, up-least}
+use Rattle.rules.specs.declared.Fraction.{Fraction}
+use Rattle.rules.specs.declared.Kind.{Kind}
+use Rattle.rules.specs.declared.Kind.the-variants.{Full, FromToe, FromHeel, NoBlock}
+use Rattle.rules.specs.declared.Block.{Block}
+use Rattle.rules.specs.JobFile.{Wall, Load, baseLength}
+use Rattle.rules.specs.Bearing.{kindOf, noBlock, ofKind, blockOf, factoredScale, reported, peak, greatestPeak, given, blockUnder, factoredBlock, isGiven}
+use Rattle.rules.specs.ToeAndStem.{scaled, onLine, pressureBy}
+use Rattle.rules.proofs.Accepted.{wall-within, base-length}
+use Rattle.rules.proofs.Examined.{Fit}
+use Rattle.rules.proofs.Sizes.{heaviestFactored, factored-sized}
+use Rattle.rules.proofs.Carries.{Bears, given-bears}
+
+-- a contact of M6 over 2R, or of N over 2R, as a factored triangle has it
+pub record Reaches (contact : Fraction) : Type 0 where
+  pub over : pos 0 ≤ℤ contact .over
+  pub under : pos 0 ≤ℤ contact .under
+  pub over-most : aboveZero (contact .over) ≤ 2070000000000
+  pub under-most : aboveZero (contact .under) ≤ 180000000
+
+-- a block on a base of length l whose pressure at a point can be worked
+pub record Pressable (l : ℕ) (b : Block) : Type 0 where
+  pub long : l ≤ 11500
+  pub toe : pos 0 ≤ℤ b .toe .over
+  pub heel : pos 0 ≤ℤ b .heel .over
+  pub toe-limit : factoredScale * aboveZero (b .toe .over) ≤ greatestPeak * aboveZero (b .toe .under)
+  pub heel-limit : factoredScale * aboveZero (b .heel .over) ≤ greatestPeak * aboveZero (b .heel .under)
+  pub even : b .kind ≡ Full → (b .toe .under ≡ pos (l * l)) × (b .heel .under ≡ pos (l * l))
+  pub contact : Reaches (b .contact)
+
+-- the pressures that a block reports are no more than the greatest peak
+abbrev pub WithinPeak : ℕ → Block → Type 0
+WithinPeak scale b = (reported scale (b .toe) ≤ greatestPeak) × (reported scale (b .heel) ≤ greatestPeak)
+
+-- those of a block that is given are, and where it isn't there are none
+pub given-most : (scale : ℕ) (b : Block) → WithinPeak scale (given scale b)
+unfolding given peak reported
+given-most scale b =
+    case (leb (peak scale b) greatestPeak) _ _ (WithinPeak scale) (λ t. let k = leb→le (peak scale b) greatestPeak t in omega arith)
+    (λ t. (up-least 1 (omega arith), up-least 1 (omega arith)))
+
+-- ---- the factored block
+
+-- what reports no more than the greatest peak is no more
+limit : (p : Fraction) → pos 0 <ℤ p .under → reported factoredScale p ≤ greatestPeak
+    → factoredScale * aboveZero (p .over) ≤ greatestPeak * aboveZero (p .under)
+unfolding reported
+limit p some h =
+    let under : 0 < aboveZero (p .under) = omega (arith, lt-parts some) in
+    le-trans (up-enough _ under) (mul-le-mul-right (aboveZero (p .under)) h)
+
+-- a contact that is within the base
+reaches : {l : ℕ} {p q : ℤ} → l ≤ 11500 → Above p → Above q → p ≤ℤ (pos l *ℤ q) → aboveZero q ≤ 180000000 → Reaches (record { over = p; under = q })
+reaches long (above p hp) (above q hq) short most =
+    let least : (n : ℕ) → pos 0 ≤ℤ pos n = λ n. pos-≤ℤ .1 (omega arith) in
+    record { over = least p; under = least q; over-most = omega (arith, mul-le-mul long most, pos-≤ℤ .0 short); under-most = most }
+
+module _ (R M6 : ℤ) (l : ℕ) (light : R <ℤ pos heaviestFactored) (long : l ≤ 11500) where
+  -- a block that bears, where it is given, and reports no more than the greatest peak, is one
+  abbrev Given : Block → Type 0
+  Given b = WithinPeak factoredScale b → (T (isGiven b) → Bears R M6 (pos l) b) → Pressable l b
+
+  -- so is one that is given, by what its figures stand over
+  bearing : (b : Block) → (b .kind ≡ Full → (b .toe .under ≡ pos (l * l)) × (b .heel .under ≡ pos (l * l)))
+      → aboveZero (b .contact .under) ≤ 180000000 → WithinPeak factoredScale b → Bears R M6 (pos l) b → Pressable l b
+  bearing b even under most bears =
+      let proper = bears .straight .proper in
+      record {
+        long = long;
+        toe = bears .toe;
+        heel = bears .heel;
+        toe-limit = limit (b .toe) (proper .toe) (most .0);
+        heel-limit = limit (b .heel) (proper .heel) (most .1);
+        even = even;
+        contact = reaches long (is-above (bears .some)) (is-above (proper .contact)) (bears .within) under;
+      }
+
+  -- the contact of a triangle stands over 2R
+  double : aboveZero (pos 2 *ℤ R) ≤ 180000000
+  double = omega (arith, above-diff _ (diff-mul (pos 2) R (itself (pos 2)) (itself R)), above-most R light)
+
+  -- and so is none
+  none : Pressable l noBlock
+  none =
+      let zero = ≤ℤ-refl (pos 0) in
+      record {
+        long = long;
+        toe = zero;
+        heel = zero;
+        toe-limit = omega arith;
+        heel-limit = omega arith;
+        even = λ e. (cc, cc);
+        contact = record { over = zero; under = leZ-yes tt; over-most = omega arith; under-most = omega arith };
+      }
+
+  -- the one of each kind, and so the one that R and M6 make
+  of-kind : (k : Kind) → Given (ofKind k R M6 (pos l))
+  unfolding ofKind
+  of-kind Full most bears = bearing _ (λ e. (refl, refl)) (omega arith) most (bears tt)
+  of-kind FromToe most bears = bearing _ (λ e. (cc, cc)) double most (bears tt)
+  of-kind FromHeel most bears = bearing _ (λ e. (cc, cc)) double most (bears tt)
+  of-kind NoBlock most bears = none
+
+  pressable : Given (given factoredScale (blockOf R M6 (pos l)))
+  unfolding given blockOf
+  pressable = case (leb (peak factoredScale (blockOf R M6 (pos l))) greatestPeak) _ _ Given (λ t. of-kind (kindOf R M6 (pos l))) (λ t most bears. none)
+
+-- the factored block of an accepted wall is one, given or not
+pub factored-pressable : (wall : Wall) (loads : List Load) → Fit wall loads → Pressable (baseLength wall) (factoredBlock wall loads)
+unfolding factoredBlock blockUnder
+factored-pressable wall loads fit =
+    let s = factored-sized wall loads fit in
+    let long = base-length (wall-within wall (fit .wall-fits)) in
+    pressable _ _ (baseLength wall) (s .vertical) (long .1) (given-most factoredScale _)
+    (given-bears factoredScale _ _ _ (s .some) (pos-<ℤ .1 (omega arith)) (s .on-base))
+
+-- ---- at a point
+
+-- what such a block reports
+pub reported-most : {l : ℕ} {b : Block} → Pressable l b → WithinPeak factoredScale b
+unfolding reported
+reported-most p = (up-least _ (p .toe-limit), up-least _ (p .heel-limit))
+
+-- the part in contact is at most all of it
+scaled-most : (greatest away : ℕ) {contact : Fraction} → Reaches contact → scaled greatest contact away ≤ greatest
+unfolding scaled
+scaled-most greatest away {contact} c =
+    up-least _ (mul-le-mul-left greatest (above-sub (pos 2 *ℤ contact .over) (*ℤ-nonneg (c .under) (pos-≤ℤ {b = away} .1 (omega arith)))))
+
+-- on a line between two ends over q, neither of them above the greatest peak, nothing is
+between : (l m n q : ℕ) {t g : ℤ} → m + n ≡ l → Whole t → Whole g → factoredScale * aboveZero t ≤ greatestPeak * q
+    → factoredScale * aboveZero g ≤ greatestPeak * q → factoredScale * aboveZero (t *ℤ pos m +ℤ g *ℤ pos n) ≤ greatestPeak * (l * q)
+between l m n q e (whole t) (whole g) h k = rw (← e) (omega (arith, mul-le-mul-right m h, mul-le-mul-right n k))
+
+-- at no point of the base is there more than the greatest peak
+pub pressure-most : {l : ℕ} {b : Block} → Pressable l b → (twice : ℕ) → twice ≤ 2 * l → pressureBy (b .kind) b l twice ≤ greatestPeak
+unfolding pressureBy onLine
+pressure-most {l} {b} p twice h = go (b .kind) refl
+  where
+    go : (k : Kind) → b .kind ≡ k → pressureBy k b l twice ≤ greatestPeak
+    go Full e =
+        let under = p .even e in
+        let limits = between (2 * l) (2 * l - twice) twice (l * l) (omega arith) (is-whole (p .toe)) (is-whole (p .heel)) in
+        up-least _ (rw (under .0) (limits (rw (under .0) at (p .toe-limit)) (rw (under .1) at (p .heel-limit))))
+    go FromToe e = le-trans (scaled-most _ _ (p .contact)) (reported-most p .0)
+    go FromHeel e = le-trans (scaled-most _ _ (p .contact)) (reported-most p .1)
+    go NoBlock e = omega arith

@@ -1,0 +1,56 @@
+-- `section::steel::lever_arm` meets its contract. The invariant: the lever arm is the greatest number up to the next one that passes the three tests.
+use mathlib.Core.Path.{_≡_, refl, sym, _∙_}
+use Prim.Native.Nat.{_≤_}
+use native.Mathlib.Omega.{arith}
+use borrow.Author.Needs.{needs}
+use Rattle.rules.specs.ToeAndStem.{bears, greatest, leverArm}
+use Rattle.section.proofs.Greatest.{passes, fails}
+use Rattle.section.proofs.steel.lever_arm.Statement.{statement}
+use Rattle.section.proofs.steel.lever_arm.Tie as tie
+
+abbrev Inv-loop : tie.InvT-loop
+Inv-loop m fcu d z₀ z = (z ≤ d) × (leverArm m fcu d ≡ greatest (bears m fcu d) z)
+
+abbrev μ-loop : tie.MeasureT-loop
+μ-loop m fcu d z₀ z = z
+
+loop-holds : tie.Need-loop-holds Inv-loop μ-loop
+unfolding leverArm
+loop-holds c = (omega arith, refl)
+
+lever-bears-requires : tie.Need-lever-bears-requires Inv-loop μ-loop
+lever-bears-requires c κs = search needs
+
+returns : tie.Need-returns Inv-loop μ-loop
+returns c =
+    let d = c .before .before .before in
+    (sym (d .loop .inv .1 ∙ passes _ _ (omega arith) (sym (c .before .lever-bears .ensures) ∙ c .if1 .taken)), d .loop .inv .0)
+
+sub-z : tie.Need-sub-z Inv-loop μ-loop
+sub-z c = omega arith
+
+loop-less : tie.Need-loop-less Inv-loop μ-loop
+loop-less c = omega arith
+
+loop-again : tie.Need-loop-again Inv-loop μ-loop
+loop-again c =
+    let d = c .before .before .before in
+    (omega arith, d .loop .inv .1 ∙ fails _ _ (omega arith) (sym (c .before .lever-bears .ensures) ∙ c .if1 .left))
+
+returns-2 : tie.Need-returns-2 Inv-loop μ-loop
+unfolding greatest
+returns-2 c = let e : c .before .loop .z ≡ 0 = omega arith in (sym (c .before .loop .inv .1 ∙ rw e), omega arith)
+
+pub lever-arm-spec : {M : Type 1} → statement M
+lever-arm-spec =
+    tie.close
+    (tie.spec
+    Inv-loop
+    μ-loop
+    loop-holds
+    lever-bears-requires
+    returns
+    sub-z
+    loop-less
+    loop-again
+    returns-2)

@@ -1,0 +1,68 @@
+-- `section::steel::steel_of` meets its contract: each of its figures is the rules', of the section's own D.
+use mathlib.Core.Path.{_≡_, sym, _∙_}
+use native.Mathlib.Omega.{arith}
+use borrow.Author.Needs.{needs}
+use Rattle.rules.specs.ToeAndStem.{twiceDepth, needsCompression, requiredArea, steelFails}
+use Rattle.section.proofs.Bounds.{moment-most}
+use Rattle.section.proofs.steel.steel_of.Statement.{statement}
+use Rattle.section.proofs.steel.steel_of.Tie as tie
+
+-- what the rule's first test says of the section, the code has found
+tested : (c : tie.After-needs-compression)
+    → let start = c .before .before .args in
+    needsCompression (start .m) (start .section .concrete) (twiceDepth (start .section)) ≡ c .needs-compression .result
+tested c = rw (← (c .before .twice-depth .ensures .0)) (sym (c .needs-compression .ensures))
+
+twice-depth-requires : tie.Need-twice-depth-requires
+twice-depth-requires c κs = search needs
+
+needs-compression-requires : tie.Need-needs-compression-requires
+needs-compression-requires c κs = search needs
+
+returns : tie.Need-returns
+unfolding requiredArea steelFails
+returns c = rw (tested (c .before) ∙ c .if1 .taken)
+
+lever-arm-requires : tie.Need-lever-arm-requires
+lever-arm-requires c κs = search needs
+
+needed-area-requires : tie.Need-needed-area-requires
+needed-area-requires c κs = (moment-most _ _ _ (omega arith) (tested (c .before .before) ∙ c .before .if1 .left), omega arith, omega arith)
+
+least-area-requires : tie.Need-least-area-requires
+least-area-requires c κs = search needs
+
+greater-requires : tie.Need-greater-requires
+greater-requires c κs = search needs
+
+provided-area-requires : tie.Need-provided-area-requires
+provided-area-requires c κs = search needs
+
+returns-2 : tie.Need-returns-2
+unfolding requiredArea steelFails
+returns-2 c =
+    let d = c .before .before .before in
+    let start = d .before .before .before in
+    rw (
+      c .provided-area .ensures,
+      c .before .greater .ensures,
+      d .needed-area .ensures,
+      d .before .lever-arm .ensures .0,
+      c .before .before .least-area .ensures,
+      start .before .twice-depth .ensures .0,
+      tested start ∙ d .before .before .if1 .left,
+    )
+
+pub steel-of-spec : {M : Type 1} → statement M
+steel-of-spec =
+    tie.close
+    (tie.spec
+    twice-depth-requires
+    needs-compression-requires
+    returns
+    lever-arm-requires
+    needed-area-requires
+    least-area-requires
+    greater-requires
+    provided-area-requires
+    returns-2)

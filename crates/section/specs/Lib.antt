@@ -1,0 +1,2 @@
+pub mod Steels
+pub mod Within

@@ -1,0 +1,130 @@
+// Document 01, "Toe and stem": the steel of a section, by BS 8110. Areas are in mm2 on a metre's width.
+use record::BARS;
+use rules::Section;
+use rules::Steel;
+ghost use mathlib.Core.Path.{_≡_};
+ghost use Prim.Native.Nat.{_≤_};
+ghost use Rattle.whole.specs.Rounding.{roundedUp, roundedDown};
+ghost use Rattle.rules.specs.ToeAndStem.{greatestSection, twiceDepth, needsCompression, bears, leverArm, neededArea, leastArea, barArea, providedArea};
+ghost use Rattle.section.specs.Within.{Workable, Within, deepest, greatestMoment};
+ghost use Rattle.section.specs.Steels.{steelUnder};
+
+// The width that steel is worked for, in mm.
+const METRE: u64 = 1000;
+
+// The least steel is in hundredths of a percent.
+const TEN_THOUSANDTHS: u64 = 10000;
+
+// The area of a bar of each diameter, in hundredths of mm2, in the order of the diameters.
+const BAR_AREAS: [u32; 8] = [5026, 7853, 11309, 20106, 31415, 49087, 80424, 125663];
+
+const HUNDREDTHS: u64 = 100;
+
+// D: twice the depth.
+pub fn twice_depth(section: Section) -> u64
+    requires { ⌜ Workable section ⌝ }
+    ensures { λ r. ⌜ (r ≡ twiceDepth section) × (r ≤ deepest) ⌝ }
+{
+    let covered = whole::excess(2 * section.thickness, 2 * section.cover);
+    whole::excess(covered, section.bar)
+}
+
+// M is more than the section bears without compression steel.
+pub fn needs_compression(m: u64, fcu: u64, d: u64) -> bool
+    requires { ⌜ Within fcu d ⌝ }
+    ensures { λ r. ⌜ r ≡ needsCompression m fcu d ⌝ }
+{
+    39 * fcu * (d * d) < m
+}
+
+// The three tests of a lever arm.
+fn lever_bears(m: u64, fcu: u64, d: u64, z: u64) -> bool
+    requires { ⌜ Within fcu d × (z ≤ d) ⌝ }
+    ensures { λ r. ⌜ r ≡ bears m fcu d z ⌝ }
+{
+    (20 * z <= 19 * d) & (d <= 2 * z) & (m <= 225 * fcu * z * (d - z))
+}
+
+// Z, twice the lever arm: the greatest number that passes the three tests, and so at most D.
+pub fn lever_arm(m: u64, fcu: u64, d: u64) -> u64
+    requires { ⌜ Within fcu d ⌝ }
+    ensures { λ r. ⌜ (r ≡ leverArm m fcu d) × (r ≤ d) ⌝ }
+{
+    let mut z = d;
+    while 0 < z {
+        if lever_bears(m, fcu, d, z) {
+            return z;
+        }
+        z = z - 1;
+    }
+    0
+}
+
+// What is asked for is rounded up, and what is there is rounded down.
+fn asked(product: u64, per: u64) -> u64
+    ensures { λ r. ⌜ r ≡ roundedUp product per ⌝ }
+{
+    whole::rounded_up(product, per)
+}
+
+fn there(product: u64, per: u64) -> u64
+    ensures { λ r. ⌜ r ≡ roundedDown product per ⌝ }
+{
+    whole::rounded_down(product, per)
+}
+
+// The area that a moment needs at a lever arm.
+pub fn needed_area(m: u64, fy: u64, z: u64) -> u64
+    requires { ⌜ (m ≤ greatestMoment) × (fy ≤ greatestSection .steel) × (z ≤ deepest) ⌝ }
+    ensures { λ r. ⌜ r ≡ neededArea m fy z ⌝ }
+{
+    asked(200 * m, 87 * fy * z)
+}
+
+fn least_area(section: Section) -> u64
+    requires { ⌜ Workable section ⌝ }
+    ensures { λ r. ⌜ r ≡ leastArea section ⌝ }
+{
+    asked(section.least * METRE * section.thickness, TEN_THOUSANDTHS)
+}
+
+// The area of one bar, in hundredths of mm2; 0 for a diameter that no bar has.
+fn bar_area(bar: u64) -> u32
+    ensures { λ r. ⌜ r ≡ barArea bar ⌝ }
+{
+    for i in 0..BARS.len() {
+        if bar == BARS[i] as u64 {
+            return BAR_AREAS[i];
+        }
+    }
+    0
+}
+
+// The area of bars at a spacing.
+pub fn provided_area(bar: u64, spacing: u64) -> u64
+    requires { ⌜ spacing ≤ greatestSection .spacing ⌝ }
+    ensures { λ r. ⌜ r ≡ providedArea bar spacing ⌝ }
+{
+    there(bar_area(bar) as u64 * METRE, HUNDREDTHS * spacing)
+}
+
+// The area required under a moment, and whether less is provided. Where compression steel would be needed no area is given, and the steel fails.
+pub fn steel_of(section: Section, m: u64) -> Steel
+    requires { ⌜ Workable section ⌝ }
+    ensures { λ r. ⌜ r ≡ steelUnder section m ⌝ }
+{
+    let d = twice_depth(section);
+    let fcu = section.concrete;
+    if needs_compression(m, fcu, d) {
+        return Steel {
+            required: 0,
+            fails: true,
+        };
+    }
+    let needed = needed_area(m, section.steel, lever_arm(m, fcu, d));
+    let required = whole::greater(needed, least_area(section));
+    Steel {
+        required: required,
+        fails: provided_area(section.bar, section.spacing) < required,
+    }
+}

@@ -1,0 +1,35 @@
+-- `wall::line` meets its contract: what is answered of the forces is answered of the line.
+use mathlib.Core.Path.{_≡_, sym, _∙_}
+use mathlib.Core.Bool.{true}
+use borrow.Author.Needs.{needs}
+use borrow.Author.Tests.{not-true, not-false}
+use Rattle.rules.specs.Answered.{fits}
+use Rattle.wall.proofs.Answers.{tells, line-worked, line-refused}
+use Rattle.wall.proofs.line.Statement.{statement}
+use Rattle.wall.proofs.line.Tie as tie
+
+-- the code's test is whether the wall fits with its loads
+judged : (c : tie.After-is-worked) → let start = c .before .before .before in c .is-worked .result ≡ fits (start .args .wall) (start .args .loads)
+judged c = rw (c .is-worked .ensures, c .before .before .blocks2 .ensures) (tells _ _)
+
+blocks-requires : tie.Need-blocks-requires
+blocks-requires c κs = search needs
+
+is-worked-requires : tie.Need-is-worked-requires
+is-worked-requires c κs = search needs
+
+returns : tie.Need-returns
+returns c =
+    rw (c .before .before .before .blocks2 .ensures) (line-refused _ _ (sym (judged (c .before)) ∙ not-true _ (c .if1 .taken)) _)
+
+accepted : (c : tie.Else1) → let start = c .before .before .before .before in fits (start .args .wall) (start .args .loads) ≡ true
+accepted c = sym (judged (c .before)) ∙ not-false _ (c .if1 .left)
+
+worked-requires : tie.Need-worked-requires
+worked-requires c κs = (rw (accepted c) tt, c .before .before .before .blocks2 .ensures)
+
+returns-2 : tie.Need-returns-2
+returns-2 c = rw (c .worked .ensures, c .before .before .before .before .blocks2 .ensures) (line-worked _ _ (accepted (c .before)) _)
+
+pub line-spec : {M : Type 1} → statement M
+line-spec = tie.close (tie.spec blocks-requires is-worked-requires returns worked-requires returns-2)

@@ -1,0 +1,58 @@
+-- `wall::members::toe_over` meets its contract: a toe is worked where there is one, and a block under it.
+use mathlib.Core.Path.{sym, _∙_}
+use native.Mathlib.Omega.{arith}
+use borrow.Author.Needs.{needs}
+use Rattle.rules.proofs.Sections.{toe-workable}
+use Rattle.wall.proofs.Answers.{member-worked, no-toe, no-bearing, toe-worked}
+use Rattle.wall.proofs.members.toe_over.Statement.{statement}
+use Rattle.wall.proofs.members.toe_over.Tie as tie
+
+field-requires : tie.Need-field-requires
+field-requires c κs = search needs
+
+no-member-requires : tie.Need-no-member-requires
+no-member-requires c κs = search needs
+
+returns : tie.Need-returns
+returns c = c .no-member .ensures ∙ sym (no-toe _ _ (omega (arith, c .before .before .field .ensures)))
+
+is-none-requires : tie.Need-is-none-requires
+is-none-requires c κs = search needs
+
+no-member-requires-2 : tie.Need-no-member-requires-2
+no-member-requires-2 c κs = search needs
+
+returns-2 : tie.Need-returns-2
+returns-2 c = c .no-member2 .ensures ∙ sym (no-bearing _ _ (cc (c .before .before .is-none .ensures, c .before .if2 .taken)))
+
+toe-section-requires : tie.Need-toe-section-requires
+toe-section-requires c κs = search needs
+
+toe-action-requires : tie.Need-toe-action-requires
+toe-action-requires c κs = search needs
+
+member-requires : tie.Need-member-requires
+member-requires c κs = search needs
+
+returns-3 : tie.Need-returns-3
+returns-3 c =
+    let judged = c .before .before .before in
+    let start = judged .before .before .before .before in
+    c .member .ensures
+    ∙ rw (c .before .before .toe-section .ensures, c .before .toe-action .ensures) (member-worked _ _ (toe-workable _ (start .pre .0)))
+    ∙ sym (toe-worked _ _ (omega (arith, judged .before .before .before .field .ensures)) (cc (judged .before .is-none .ensures, judged .if2 .left)))
+
+pub toe-over-spec : {M : Type 1} → statement M
+toe-over-spec =
+    tie.close
+    (tie.spec
+    field-requires
+    no-member-requires
+    returns
+    is-none-requires
+    no-member-requires-2
+    returns-2
+    toe-section-requires
+    toe-action-requires
+    member-requires
+    returns-3)

@@ -1,0 +1,39 @@
+-- `wall::sections::toe_section` meets its contract: each number is the field that it is to be.
+use borrow.Author.Needs.{needs}
+use Rattle.rules.specs.ToeAndStem.{toeSection}
+use Rattle.wall.proofs.sections.toe_section.Statement.{statement}
+use Rattle.wall.proofs.sections.toe_section.Tie as tie
+
+field-requires : tie.Need-field-requires
+field-requires c κs = search needs
+
+field-requires-2 : tie.Need-field-requires-2
+field-requires-2 c κs = search needs
+
+field-requires-3 : tie.Need-field-requires-3
+field-requires-3 c κs = search needs
+
+field-requires-4 : tie.Need-field-requires-4
+field-requires-4 c κs = search needs
+
+field-requires-5 : tie.Need-field-requires-5
+field-requires-5 c κs = search needs
+
+section-of-requires : tie.Need-section-of-requires
+section-of-requires c κs = search needs
+
+returns : tie.Need-returns
+unfolding toeSection
+returns c = cc
+
+pub toe-section-spec : {M : Type 1} → statement M
+toe-section-spec =
+    tie.close
+    (tie.spec
+    field-requires
+    field-requires-2
+    field-requires-3
+    field-requires-4
+    field-requires-5
+    section-of-requires
+    returns)

@@ -1,0 +1,28 @@
+-- `wall::toe::shear_of_weight` meets its contract: the product fits, and the rest is the rounding.
+use native.Mathlib.Omega.{arith}
+use borrow.Author.Needs.{needs}
+use Rattle.whole.proofs.Factors.{two-fit}
+use Rattle.rules.specs.ToeAndStem.{shearOfWeight}
+use Rattle.rules.proofs.Accepted.{wall-within}
+use Rattle.wall.proofs.toe.shear_of_weight.Statement.{statement}
+use Rattle.wall.proofs.toe.shear_of_weight.Tie as tie
+
+slab-requires : tie.Need-slab-requires
+slab-requires c κs = search needs
+
+field-requires : tie.Need-field-requires
+field-requires c κs = search needs
+
+mul-relief : tie.Need-mul-relief
+mul-relief c = two-fit (omega (arith, wall-within _ (c .before .before .pre)))
+
+relief-requires : tie.Need-relief-requires
+relief-requires c κs = search needs
+
+returns : tie.Need-returns
+unfolding shearOfWeight
+returns c = cc
+
+pub shear-of-weight-spec : {M : Type 1} → statement M
+shear-of-weight-spec =
+    tie.close (tie.spec slab-requires field-requires mul-relief relief-requires returns)

@@ -1,0 +1,33 @@
+-- `wall::toe::slab` meets its contract: neither field is beyond its range.
+use Prim.Native.Nat.{_*_, _≤_}
+use native.Mathlib.Nat.{mul-le-mul}
+use native.Mathlib.Omega.{arith}
+use borrow.Author.Needs.{needs}
+use Rattle.rules.proofs.Accepted.{wall-within}
+use Rattle.wall.proofs.toe.slab.Statement.{statement}
+use Rattle.wall.proofs.toe.slab.Tie as tie
+
+field-requires : tie.Need-field-requires
+field-requires c κs = search needs
+
+mul-result : tie.Need-mul-result
+mul-result c = search needs
+
+field-requires-2 : tie.Need-field-requires-2
+field-requires-2 c κs = search needs
+
+slab-most : (c : tie.After-field2) → 14 * c .before .field .result * c .field2 .result ≤ 14 * 3000 * 1500
+slab-most c =
+    let within = wall-within _ (c .before .before .pre) in
+    let density : c .before .field .result ≤ 3000 = omega arith in
+    let thickness : c .field2 .result ≤ 1500 = omega arith in
+    omega (arith, mul-le-mul density thickness)
+
+mul-result-2 : tie.Need-mul-result-2
+mul-result-2 c = omega (arith, slab-most c)
+
+returns : tie.Need-returns
+returns c = (cc, slab-most c)
+
+pub slab-spec : {M : Type 1} → statement M
+slab-spec = tie.close (tie.spec field-requires mul-result field-requires-2 mul-result-2 returns)

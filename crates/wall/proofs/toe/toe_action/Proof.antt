@@ -1,0 +1,107 @@
+-- `wall::toe::toe_action` meets its contract: the toe's end, the stem's front and its middle are on the base, and no pressure there is above the
+-- greatest peak.
+use Prim.Native.Nat.{ℕ, _*_, _≤_}
+use native.Mathlib.Omega.{arith}
+use borrow.Author.Needs.{needs}
+use Rattle.whole.proofs.Factors.{two-fit}
+use Rattle.rules.specs.JobFile.{baseLength}
+use Rattle.rules.specs.ToeAndStem.{pressureAt, twiceArm, shearOfBearing, momentOfBearing, toeAction}
+use Rattle.rules.proofs.Accepted.{wall-within}
+use Rattle.rules.proofs.Pressures.{Pressable}
+use Rattle.wall.specs.Reported.{Reported}
+use Rattle.wall.proofs.toe.toe_action.Statement.{statement}
+use Rattle.wall.proofs.toe.toe_action.Tie as tie
+
+base-length-requires : tie.Need-base-length-requires
+base-length-requires c κs = search needs
+
+field-requires : tie.Need-field-requires
+field-requires c κs = search needs
+
+twice-arm-requires : tie.Need-twice-arm-requires
+twice-arm-requires c κs = search needs
+
+-- a point that is on the base
+on-base : (c : tie.After-twice-arm) {twice : ℕ} → twice ≤ 2 * baseLength (c .before .before .before .args .wall)
+    → Reported (c .before .before .before .args .pressed) × Pressable (c .before .before .base-length .result) (c .before .before .before .args .pressed .block)
+    × (twice ≤ 2 * c .before .before .base-length .result)
+on-base c h = let pre = c .before .before .before .pre in rw (c .before .before .base-length .ensures) (pre .1, pre .2, h)
+
+pressure-at-requires : tie.Need-pressure-at-requires
+pressure-at-requires c κs = on-base c (omega arith)
+
+mul-pressure-at : tie.Need-mul-pressure-at
+mul-pressure-at c = search needs
+
+pressure-at-requires-2 : tie.Need-pressure-at-requires-2
+unfolding baseLength
+pressure-at-requires-2 c κs = on-base (c .before) (omega arith)
+
+pressure-at-requires-3 : tie.Need-pressure-at-requires-3
+unfolding baseLength
+pressure-at-requires-3 c κs = on-base (c .before .before) (omega arith)
+
+add-bearing : tie.Need-add-bearing
+add-bearing c = search needs
+
+mul-bearing : tie.Need-mul-bearing
+mul-bearing c = two-fit (omega (arith, wall-within _ (c .before .before .before .before .before .before .pre .0)))
+
+bearing-requires : tie.Need-bearing-requires
+bearing-requires c κs = search needs
+
+mul-bearing-2 : tie.Need-mul-bearing-2
+mul-bearing-2 c = search needs
+
+add-bearing-2 : tie.Need-add-bearing-2
+add-bearing-2 c = search needs
+
+squared-arm-requires : tie.Need-squared-arm-requires
+squared-arm-requires c κs = search needs
+
+mul-bearing-3 : tie.Need-mul-bearing-3
+mul-bearing-3 c = two-fit (omega arith)
+
+bearing-requires-2 : tie.Need-bearing-requires-2
+bearing-requires-2 c κs = search needs
+
+shear-of-weight-requires : tie.Need-shear-of-weight-requires
+shear-of-weight-requires c κs = search needs
+
+excess-requires : tie.Need-excess-requires
+excess-requires c κs = search needs
+
+moment-of-weight-requires : tie.Need-moment-of-weight-requires
+moment-of-weight-requires c κs = search needs
+
+excess-requires-2 : tie.Need-excess-requires-2
+excess-requires-2 c κs = search needs
+
+returns : tie.Need-returns
+unfolding toeAction shearOfBearing momentOfBearing pressureAt twiceArm
+returns c = cc
+
+pub toe-action-spec : {M : Type 1} → statement M
+toe-action-spec =
+    tie.close
+    (tie.spec
+    base-length-requires
+    field-requires
+    twice-arm-requires
+    pressure-at-requires
+    mul-pressure-at
+    pressure-at-requires-2
+    pressure-at-requires-3
+    add-bearing
+    mul-bearing
+    bearing-requires
+    mul-bearing-2
+    add-bearing-2
+    squared-arm-requires
+    mul-bearing-3
+    bearing-requires-2
+    shear-of-weight-requires
+    excess-requires
+    moment-of-weight-requires
+    excess-requires-2
+    returns)
