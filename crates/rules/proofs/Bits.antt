@@ -23,10 +23,10 @@ use Rattle.rules.specs.declared.Section.{Section}
 use Rattle.rules.specs.declared.Member.{Member}
 use Rattle.rules.specs.declared.Totals.{Totals}
 use Rattle.rules.specs.JobFile.{Wall, Load, kind, toeLength, allowableBearing}
-use Rattle.rules.specs.Forces.{squared, service, passive, friction, isPropped, slidingUnder, slidingOf}
-use Rattle.rules.specs.Bearing.{serviceScale, reported, peak, noBlock, ofKind, blockOf, given, blockUnder, serviceBlock, factoredBlock, isGivenKind}
+use Rattle.rules.specs.Forces.{squared, service, passive, friction, isPropped, slidingUnder, slidingOf, workedForces}
+use Rattle.rules.specs.Bearing.{serviceScale, reported, noBlock, ofKind, blockOf, given, blockUnder, serviceBlock, factoredBlock, isGivenKind, pressedBy, workedBearing}
 use Rattle.rules.specs.ToeAndStem.{toeWorked, toeAction, stemAction, toeSection, stemSection, twiceDepth, needsCompression, providedArea, requiredArea, steelFails, shearFails, memberUnder, noMember, toeUnder, toe, stem}
-use Rattle.rules.specs.SheetLine.{fails, bit, checks, bitsAmong, failures, isSet}
+use Rattle.rules.specs.SheetLine.{workedWall, failsBy, fails, bit, checks, bitsAmong, failuresBy, failures, isSet}
 
 -- ---- binary digits
 
@@ -234,7 +234,7 @@ module _ (wall : Wall) (loads : List Load) where
 
   -- so each check's test is passed just where its words hold
   decided : (check : Check) → Passed (fails check wall loads) (Stated check wall loads)
-  unfolding fails slidingOf slidingUnder isPropped peak toe toeUnder stem memberUnder
+  unfolding workedWall failsBy workedBearing workedForces pressedBy slidingOf slidingUnder isPropped toe toeUnder stem memberUnder
   decided Slides = and (negated not-equal) is-lessℤ
   decided Overturns = is-lessℤ
   decided OverAllowable = less-than-either
@@ -253,17 +253,17 @@ module _ (wall : Wall) (loads : List Load) where
 
   -- a check's bit is set just where its words hold
   pub bits : (check : Check) → T (isSet (failures wall loads) check) ↔ Stated check wall loads
-  unfolding failures
+  unfolding failuresBy
   bits check = rw (tells failing .each check) (stated check)
 
   -- failures are one byte
   pub one-byte : failures wall loads < 256
-  unfolding failures
+  unfolding failuresBy
   one-byte = tells failing .one-byte
 
   -- and a bit that is set is that of a check whose words hold
   pub nothing-else : (k : ℕ) → failures wall loads / 2 ^ k % 2 ≡ 1 → (check : Check) × (bit check ≡ 2 ^ k) × Stated check wall loads
-  unfolding failures
+  unfolding failuresBy
   nothing-else k e = let found = tells failing .only k e in (found .0, found .1, stated (found .0) .0 (found .2))
 
 -- ---- a block that isn't given
@@ -286,7 +286,7 @@ no-pressure scale t wall e = rw (nothing _ _ _ _ _ e) (omega arith)
 -- so no service pressure is over the allowable where no service block is given
 pub clear-without-block : (wall : Wall) (loads : List Load) → T (isSet (failures wall loads) NoServiceBlock)
     → isSet (failures wall loads) OverAllowable ≡ false
-unfolding failures serviceBlock fails peak
+unfolding failuresBy serviceBlock workedWall failsBy workedBearing pressedBy
 clear-without-block wall loads t =
     let none = no-pressure serviceScale (service wall loads) wall (bits wall loads NoServiceBlock .0 t) in
     tells (failing wall loads) .each OverAllowable ∙ rw (none .0, none .1) (le-ltb (1000 * allowableBearing wall) 0 (omega arith))

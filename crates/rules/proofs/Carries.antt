@@ -16,12 +16,11 @@ use Rattle.rules.specs.declared.Fraction.{Fraction}
 use Rattle.rules.specs.declared.Kind.{Kind}
 use Rattle.rules.specs.declared.Kind.the-variants.{Full, FromToe, FromHeel, NoBlock}
 use Rattle.rules.specs.declared.Block.{Block}
-use Rattle.rules.specs.declared.Borne.{Borne}
 use Rattle.rules.specs.declared.Totals.{Totals}
 use Rattle.rules.specs.JobFile.{Wall, Load, baseLength}
 use Rattle.rules.specs.Answered.{fits}
 use Rattle.rules.specs.Forces.{service, factored, workedForces, forcesOf}
-use Rattle.rules.specs.Bearing.{_over_, overOne, plus, minus, times, Same, Proper, Triangle, HasKind, StraightLine, carried, sixMomentsAs, sixMoments, SameBlock, isNone, isFull, isFromToe, isFromHeel, kindOf, noBlock, ofKind, blockOf, serviceScale, factoredScale, peak, greatestPeak, given, blockUnder, serviceBlock, factoredBlock, isGiven, pressedBy, bearingOf}
+use Rattle.rules.specs.Bearing.{_over_, overOne, plus, minus, times, Same, Proper, Triangle, HasKind, StraightLine, carried, sixMomentsAs, sixMoments, SameBlock, isNone, isFull, isFromToe, isFromHeel, kindOf, noBlock, ofKind, blockOf, serviceScale, factoredScale, peak, greatestPeak, given, blockUnder, serviceBlock, factoredBlock, isGiven, pressedBy, workedBearing, bearingOf}
 use Rattle.rules.proofs.Accepted.{wall-within, base-length}
 use Rattle.rules.proofs.Examined.{fit}
 use Rattle.rules.proofs.Sizes.{Sized, heaviest, heaviestFactored, service-sized, factored-sized}
@@ -341,16 +340,8 @@ module _ (wall : Wall) (loads : List Load) (accepted : T (fits wall loads)) wher
 -- ---- what is answered of one wall with its loads
 
 -- where they fit, the forces and the blocks are those of the wall under its loads
-abbrev pub workedBorne : Wall → List Load → Borne
-workedBorne wall loads =
-    record {
-      forces = workedForces wall loads;
-      service = pressedBy serviceScale (serviceBlock wall loads);
-      factored = pressedBy factoredScale (factoredBlock wall loads);
-    }
-
-pub worked-blocks : (wall : Wall) (loads : List Load) → fits wall loads ≡ true → bearingOf wall loads ≡ workedBorne wall loads
-unfolding bearingOf forcesOf workedForces serviceBlock factoredBlock
+pub worked-blocks : (wall : Wall) (loads : List Load) → fits wall loads ≡ true → bearingOf wall loads ≡ workedBearing wall loads
+unfolding bearingOf workedBearing forcesOf workedForces serviceBlock factoredBlock
 worked-blocks wall loads e = rw e
 
 -- where they are refused, no block is given

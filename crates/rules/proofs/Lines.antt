@@ -15,17 +15,17 @@ use Rattle.whole.proofs.Integer.{case, ≤ℤ-of-<ℤ, pos-≤ℤ, sub-<ℤ, ab
 use Rattle.whole.proofs.Lists.{All, all-joined}
 use Rattle.whole.proofs.Rounded.{up-within}
 use Rattle.rules.specs.declared.Block.{Block}
-use Rattle.rules.specs.declared.Check.{Check}
 use Rattle.rules.specs.declared.Section.{Section}
 use Rattle.rules.specs.declared.Action.{Action}
 use Rattle.rules.specs.declared.Member.{Member}
 use Rattle.rules.specs.JobFile.{Wall, Load, stemHeight, toeLength, baseThickness, restCoefficient, baseLength, wallHeight, isDown, position, deadLoad, liveLoad, reach}
-use Rattle.rules.specs.Forces.{saturatedHeight, Component, deadPush, livePush, across, pushRows, horizontal, moment, columnSum, tenths, passive, frictionUnder, lastingWeight, isPropped, slidingUnder, slidingOf, proppingForce}
-use Rattle.rules.specs.Bearing.{serviceScale, greatestPeak, blockUnder, serviceBlock, factoredBlock}
+use Rattle.rules.specs.Forces.{saturatedHeight, Component, deadPush, livePush, across, pushRows, horizontal, moment, columnSum, tenths, passive, frictionUnder, lastingWeight, isPropped, slidingUnder, slidingOf, proppingForce, workedForces}
+use Rattle.rules.specs.Bearing.{serviceScale, greatestPeak, blockUnder, serviceBlock, factoredBlock, pressedBy, workedBearing}
 use Rattle.rules.specs.ToeAndStem.{pressureAt, twiceArm, toeWorked, shearOfBearing, momentOfBearing, toeAction, stemLoadRows, stemLoadTable, stemTable, stemAction, toeSection, stemSection, isWorkable, memberUnder, toeUnder, toe, stem}
-use Rattle.rules.specs.SheetLine.{fails, bit, checks, bitsAmong, failures, line}
+use Rattle.rules.specs.SheetLine.{workedWall, numbersBy, line}
 use Rattle.rules.proofs.Accepted.{WallWithin, wall-within, wall-height, LoadWithin, load-within}
 use Rattle.rules.proofs.Examined.{AllFit, Fit}
+use Rattle.rules.proofs.Bits.{one-byte}
 use Rattle.rules.proofs.Pressures.{Pressable, WithinPeak, given-most, factored-pressable, reported-most, pressure-most}
 use Rattle.rules.proofs.Sections.{toe-workable, stem-workable, required-most}
 use Rattle.rules.proofs.Sizes.{Sound, push, pushes-sound, Small, Moderate, each, row-at, column-moderate, service-sized}
@@ -135,20 +135,6 @@ module _ (wall : Wall) (loads : List Load) (fit : Fit wall loads) where
       member-small (stemSection wall) (stem-workable wall (fit .wall-fits)) _
       (quotient-small _ 10 (part horizontal), quotient-small _ (6 * 10) (part moment))
 
--- ---- the checks
-
--- no more bits are set than all of them
-bits-most : (cs : List Check) (picks : Check → Bool) → bitsAmong cs picks ≤ bitsAmong cs (λ c. true)
-unfolding bitsAmong
-bits-most [] picks = omega arith
-bits-most (c ∷ cs) picks =
-    let own = case (picks c) (bit c) 0 (λ n. n ≤ bit c) (λ t. omega arith) (λ t. omega arith) in
-    omega (arith, bits-most cs picks)
-
-pub failures-most : (wall : Wall) (loads : List Load) → failures wall loads ≤ 255
-unfolding failures bitsAmong
-failures-most wall loads = bits-most checks (λ check. fails check wall loads)
-
 -- ---- the line
 
 -- a prop takes no more than H
@@ -167,11 +153,11 @@ service-most wall loads = given-most serviceScale _
 
 -- every number of an accepted wall's line is small, where the wall's own number is
 pub line-small : {wall : Wall} {loads : List Load} (n : ℕ) → Small n → Fit wall loads → All (λ z. Small (natAbs z)) (line n wall loads)
-unfolding line
+unfolding line numbersBy workedWall workedBearing workedForces pressedBy
 line-small {wall} {loads} n h fit =
     let s = service-sized wall loads fit in
     let R = abs-less (≤ℤ-of-<ℤ (s .some)) (s .vertical) in
     let H = abs-less (s .horizontal .0) (s .horizontal .1) in
     let served = service-most wall loads in
     let pressed = reported-most (factored-pressable wall loads fit) in
-    omega (arith, failures-most wall loads, propping-small wall loads fit, s .moment, toe-small wall loads fit, stem-small wall loads fit)
+    omega (arith, one-byte wall loads, propping-small wall loads fit, s .moment, toe-small wall loads fit, stem-small wall loads fit)

@@ -17,7 +17,7 @@ use Rattle.rules.specs.declared.Block.{Block}
 use Rattle.rules.specs.declared.Pressed.{Pressed}
 use Rattle.rules.specs.declared.Borne.{Borne}
 use Rattle.rules.specs.JobFile.{Wall, Load, baseLength}
-use Rattle.rules.specs.Forces.{service, factored, forcesOf}
+use Rattle.rules.specs.Forces.{service, factored, workedForces, forcesOf}
 
 -- ---- fractions
 
@@ -176,6 +176,15 @@ isGiven b = isGivenKind (b .kind)
 
 unfoldable pub pressedBy : ℕ → Block → Pressed
 pressedBy scale b = record { block = b; toe = reported scale (b .toe); heel = reported scale (b .heel) }
+
+-- the forces on a wall that is worked, and the blocks that bear them
+unfoldable pub workedBearing : Wall → List Load → Borne
+workedBearing wall loads =
+    record {
+      forces = workedForces wall loads;
+      service = pressedBy serviceScale (serviceBlock wall loads);
+      factored = pressedBy factoredScale (factoredBlock wall loads);
+    }
 
 -- what is answered of one wall with its loads: its forces, and the blocks that bear its totals. A refused one has totals of 0, and so no block.
 unfoldable pub bearingOf : Wall → List Load → Borne

@@ -1,5 +1,5 @@
 -- Document 01, "The sheet line": the checks and their bits, a wall's sixteen numbers, the result buffer after a call, and the printed text.
-use Prim.Native.Nat.{ℕ, zero, suc, _+_, _-_, _*_, _/_, _%_}
+use Prim.Native.Nat.{ℕ, zero, suc, _+_, _-_, _*_, _/_, _%_, max}
 use Prim.Native.Char.{code}
 use Prim.Native.String.{String, [] as empty, _∷_ as _then_}
 use mathlib.Core.Path.{_≡_}
@@ -14,25 +14,33 @@ use Rattle.rules.specs.declared.Answer.{Answer}
 use Rattle.rules.specs.declared.Answer.the-variants.{Worked, BufferTooShort}
 use Rattle.rules.specs.declared.Check.{Check}
 use Rattle.rules.specs.declared.Check.the-variants.{Slides, Overturns, OverAllowable, NoServiceBlock, NoFactoredBlock, ToeSteel, StemSteel, Sheared}
+use Rattle.rules.specs.declared.WorkedWall.{WorkedWall}
 use Rattle.rules.specs.declared.WallLine.{WallLine}
 use Rattle.rules.specs.JobFile.{File, Wall, Load, Entry, wallCount, allowableBearing, walls, entries, loadsOn}
 use Rattle.rules.specs.Answered.{number, place, isWorked, refusedIf, _orElse_, firstRefusal, examined, fits}
-use Rattle.rules.specs.Forces.{service, slides, proppingForce}
-use Rattle.rules.specs.Bearing.{serviceScale, factoredScale, reported, peak, serviceBlock, factoredBlock, isGiven}
+use Rattle.rules.specs.Bearing.{isGiven, workedBearing}
 use Rattle.rules.specs.ToeAndStem.{toe, stem}
+
+-- ---- a wall that is worked
+
+unfoldable pub workedWall : Wall → List Load → WorkedWall
+workedWall wall loads = record { borne = workedBearing wall loads; toe = toe wall loads; stem = stem wall loads }
 
 -- ---- the checks
 
--- the test of each: does a wall fail it? The allowable pressure is in kN/m2, each of 1000 N/m2.
-unfoldable pub fails : Check → Wall → List Load → Bool
-fails Slides wall loads = slides wall loads
-fails Overturns wall loads = ltZ (service wall loads .restoring) (service wall loads .overturning)
-fails OverAllowable wall loads = ltb (1000 * allowableBearing wall) (peak serviceScale (serviceBlock wall loads))
-fails NoServiceBlock wall loads = not (isGiven (serviceBlock wall loads))
-fails NoFactoredBlock wall loads = not (isGiven (factoredBlock wall loads))
-fails ToeSteel wall loads = toe wall loads .steel .fails
-fails StemSteel wall loads = stem wall loads .steel .fails
-fails Sheared wall loads = toe wall loads .sheared || stem wall loads .sheared
+-- the test of each: does a wall fail it, as it was worked? The allowable pressure is in kN/m2, each of 1000 N/m2.
+unfoldable pub failsBy : Check → Wall → WorkedWall → Bool
+failsBy Slides wall w = w .borne .forces .sliding .slides
+failsBy Overturns wall w = ltZ (w .borne .forces .service .restoring) (w .borne .forces .service .overturning)
+failsBy OverAllowable wall w = ltb (1000 * allowableBearing wall) (max (w .borne .service .toe) (w .borne .service .heel))
+failsBy NoServiceBlock wall w = not (isGiven (w .borne .service .block))
+failsBy NoFactoredBlock wall w = not (isGiven (w .borne .factored .block))
+failsBy ToeSteel wall w = w .toe .steel .fails
+failsBy StemSteel wall w = w .stem .steel .fails
+failsBy Sheared wall w = w .toe .sheared || w .stem .sheared
+
+abbrev pub fails : Check → Wall → List Load → Bool
+fails check wall loads = failsBy check wall (workedWall wall loads)
 
 -- the fact that a wall fails one
 abbrev pub Failure : Check → Wall → List Load → Type 0
@@ -56,8 +64,11 @@ unfoldable pub bitsAmong : List Check → (Check → Bool) → ℕ
 bitsAmong [] picks = 0
 bitsAmong (check ∷ rest) picks = cond (picks check) (bit check) 0 + bitsAmong rest picks
 
-unfoldable pub failures : Wall → List Load → ℕ
-failures wall loads = bitsAmong checks (λ check. fails check wall loads)
+unfoldable pub failuresBy : Wall → WorkedWall → ℕ
+failuresBy wall w = bitsAmong checks (λ check. failsBy check wall w)
+
+abbrev pub failures : Wall → List Load → ℕ
+failures wall loads = failuresBy wall (workedWall wall loads)
 
 -- is a check's bit set in a byte?
 unfoldable pub isSet : ℕ → Check → Bool
@@ -68,25 +79,28 @@ isSet byte check = eqb (byte / bit check % 2) 1
 abbrev pub lineNumbers : ℕ
 lineNumbers = 16
 
-unfoldable pub line : ℕ → Wall → List Load → List ℤ
-line n wall loads =
+unfoldable pub numbersBy : ℕ → Wall → WorkedWall → List ℤ
+numbersBy n wall w =
     pos n
-    ∷ pos (failures wall loads)
-    ∷ service wall loads .vertical
-    ∷ service wall loads .horizontal
-    ∷ pos (proppingForce wall loads)
-    ∷ service wall loads .moment
-    ∷ pos (reported serviceScale (serviceBlock wall loads .toe))
-    ∷ pos (reported serviceScale (serviceBlock wall loads .heel))
-    ∷ pos (reported factoredScale (factoredBlock wall loads .toe))
-    ∷ pos (reported factoredScale (factoredBlock wall loads .heel))
-    ∷ pos (toe wall loads .action .shear)
-    ∷ pos (toe wall loads .action .moment)
-    ∷ pos (toe wall loads .steel .required)
-    ∷ pos (stem wall loads .action .shear)
-    ∷ pos (stem wall loads .action .moment)
-    ∷ pos (stem wall loads .steel .required)
+    ∷ pos (failuresBy wall w)
+    ∷ w .borne .forces .service .vertical
+    ∷ w .borne .forces .service .horizontal
+    ∷ pos (w .borne .forces .sliding .propping)
+    ∷ w .borne .forces .service .moment
+    ∷ pos (w .borne .service .toe)
+    ∷ pos (w .borne .service .heel)
+    ∷ pos (w .borne .factored .toe)
+    ∷ pos (w .borne .factored .heel)
+    ∷ pos (w .toe .action .shear)
+    ∷ pos (w .toe .action .moment)
+    ∷ pos (w .toe .steel .required)
+    ∷ pos (w .stem .action .shear)
+    ∷ pos (w .stem .action .moment)
+    ∷ pos (w .stem .steel .required)
     ∷ []
+
+unfoldable pub line : ℕ → Wall → List Load → List ℤ
+line n wall loads = numbersBy n wall (workedWall wall loads)
 
 -- what is answered of one wall, with its number and its loads: its line, or the refusal and nothing but zeros
 unfoldable pub lineOf : ℕ → Wall → List Load → WallLine

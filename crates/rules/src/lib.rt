@@ -124,6 +124,13 @@ pub struct Member {
     pub sheared: bool,
 }
 
+// A wall that is worked: its forces and the blocks that bear them, its toe and its stem.
+pub struct WorkedWall {
+    pub borne: Borne,
+    pub toe: Member,
+    pub stem: Member,
+}
+
 // The checks, in the order of their bits.
 pub enum Check {
     Slides,

@@ -1,5 +1,4 @@
 // Document 01, "The sheet line": one wall under its loads, worked to the sixteen numbers of its line.
-mod checks;
 mod members;
 mod pressure;
 mod sections;
@@ -8,57 +7,59 @@ mod toe;
 use record::Loads;
 use record::Wall;
 use rules::Borne;
-use rules::Check;
 use rules::LINE;
-use rules::Member;
 use rules::WallLine;
+use rules::WorkedWall;
 ghost use mathlib.Core.Path.{_≡_};
-ghost use Prim.Native.Nat.{_<_};
 ghost use lib.Dec.{T};
 ghost use lib.IntN.{natAbs};
 ghost use Rattle.whole.proofs.Lists.{All};
 ghost use Rattle.rules.specs.Answered.{fits};
 ghost use Rattle.rules.specs.Bearing.{bearingOf};
-ghost use Rattle.rules.specs.SheetLine.{isSet, line as lineOfRules, lineOf};
-ghost use Rattle.wall.specs.Numbers.{numbersOf};
+ghost use Rattle.rules.specs.SheetLine.{workedWall, numbersBy, lineOf};
+ghost use Rattle.rules.proofs.Sizes.{Small};
 
 pub type Numbers = [i64; LINE];
 
-// The numbers of a line, in its order.
-fn numbers_of(number: u32, failures: u8, borne: Borne, toe: Member, stem: Member) -> Numbers
-    requires { ⌜ All (λ z. natAbs z < 1000000000000000) (numbersOf number failures borne toe stem) ⌝ }
-    ensures { λ r. ⌜ r ≡ numbersOf number failures borne toe stem ⌝ }
+// A wall that fits with its loads, from what bears it: its toe and its stem besides.
+fn worked(wall: Wall, loads: Loads, borne: Borne) -> WorkedWall
+    requires { ⌜ T (fits wall loads) × (borne ≡ bearingOf wall loads) ⌝ }
+    ensures { λ r. ⌜ r ≡ workedWall wall loads ⌝ }
 {
-    let totals = borne.forces.service;
+    WorkedWall {
+        borne: borne,
+        toe: members::toe_over(wall, borne.factored),
+        stem: members::stem_under(wall, loads),
+    }
+}
+
+// The numbers of a line, in its order.
+fn numbers_of(number: u32, wall: Wall, worked: WorkedWall) -> Numbers
+    requires { ⌜ All (λ z. Small (natAbs z)) (numbersBy number wall worked) ⌝ }
+    ensures { λ r. ⌜ r ≡ numbersBy number wall worked ⌝ }
+{
+    let failures = checks::failures_of(wall, worked);
+    let forces = worked.borne.forces;
+    let service = worked.borne.service;
+    let factored = worked.borne.factored;
     [
         number as i64,
         failures as i64,
-        totals.vertical,
-        totals.horizontal,
-        borne.forces.sliding.propping as i64,
-        totals.moment,
-        borne.service.toe as i64,
-        borne.service.heel as i64,
-        borne.factored.toe as i64,
-        borne.factored.heel as i64,
-        toe.action.shear as i64,
-        toe.action.moment as i64,
-        toe.steel.required as i64,
-        stem.action.shear as i64,
-        stem.action.moment as i64,
-        stem.steel.required as i64,
+        forces.service.vertical,
+        forces.service.horizontal,
+        forces.sliding.propping as i64,
+        forces.service.moment,
+        service.toe as i64,
+        service.heel as i64,
+        factored.toe as i64,
+        factored.heel as i64,
+        worked.toe.action.shear as i64,
+        worked.toe.action.moment as i64,
+        worked.toe.steel.required as i64,
+        worked.stem.action.shear as i64,
+        worked.stem.action.moment as i64,
+        worked.stem.steel.required as i64,
     ]
-}
-
-// The line of a wall that fits with its loads, from what bears it.
-fn worked(number: u32, wall: Wall, loads: Loads, borne: Borne) -> Numbers
-    requires { ⌜ T (fits wall loads) × (borne ≡ bearingOf wall loads) ⌝ }
-    ensures { λ r. ⌜ r ≡ lineOfRules number wall loads ⌝ }
-{
-    let toe = members::toe_over(wall, borne.factored);
-    let stem = members::stem_under(wall, loads);
-    let failures = checks::failures_of(wall, borne, toe, stem);
-    numbers_of(number, failures, borne, toe, stem)
 }
 
 // The line of a wall with its number and its loads, or the refusal that a file of this one wall and these loads would get. An absent load is a
@@ -77,13 +78,6 @@ pub fn line(number: u32, wall: Wall, loads: Loads) -> WallLine
     }
     WallLine {
         answer: answer,
-        numbers: worked(number, wall, loads, borne),
+        numbers: numbers_of(number, wall, worked(wall, loads, borne)),
     }
-}
-
-// Has a wall failed a check? Its failures are the second number of its line.
-pub fn has_failed(failures: u8, check: Check) -> bool
-    ensures { λ r. ⌜ r ≡ isSet failures check ⌝ }
-{
-    checks::is_set(failures, check)
 }

@@ -1,5 +1,4 @@
 // Document 01, "Toe and stem": the toe and the stem of a wall, each with what acts on it and what its section makes of that.
-use crate::checks;
 use crate::sections;
 use crate::toe;
 use record::Loads;
@@ -41,7 +40,7 @@ pub fn toe_over(wall: Wall, factored: Pressed) -> Member
     if record::field(wall, TOE_LENGTH) == 0 {
         return no_member();
     }
-    if checks::is_none(factored.block) {
+    if !bearing::is_given(factored.block) {
         return no_member();
     }
     section::member(sections::toe_section(wall), toe::toe_action(wall, factored))

@@ -1,9 +1,13 @@
 -- `wall::line` meets its contract: what is answered of the forces is answered of the line.
 use mathlib.Core.Path.{_≡_, sym, _∙_}
 use mathlib.Core.Bool.{true}
+use native.Mathlib.Omega.{arith}
 use borrow.Author.Needs.{needs}
 use borrow.Author.Tests.{not-true, not-false}
 use Rattle.rules.specs.Answered.{fits}
+use Rattle.rules.specs.SheetLine.{numbersBy, line}
+use Rattle.rules.proofs.Examined.{fit}
+use Rattle.rules.proofs.Lines.{line-small}
 use Rattle.wall.proofs.Answers.{tells, line-worked, line-refused}
 use Rattle.wall.proofs.line.Statement.{statement}
 use Rattle.wall.proofs.line.Tie as tie
@@ -28,8 +32,21 @@ accepted c = sym (judged (c .before)) ∙ not-false _ (c .if1 .left)
 worked-requires : tie.Need-worked-requires
 worked-requires c κs = (rw (accepted c) tt, c .before .before .before .blocks2 .ensures)
 
+-- the numbers of the wall that is worked are its line's
+numbers : (c : tie.After-worked) → let start = c .before .before .before .before .before in
+    numbersBy (start .args .number) (start .args .wall) (c .worked .result) ≡ line (start .args .number) (start .args .wall) (start .args .loads)
+unfolding line
+numbers c = rw (c .worked .ensures)
+
+numbers-of-requires : tie.Need-numbers-of-requires
+numbers-of-requires c κs =
+    let start = c .before .before .before .before .before in
+    rw (numbers c) (line-small _ (omega (arith, start .fits .number)) (fit _ _ (rw (accepted (c .before)) tt)))
+
 returns-2 : tie.Need-returns-2
-returns-2 c = rw (c .worked .ensures, c .before .before .before .before .blocks2 .ensures) (line-worked _ _ (accepted (c .before)) _)
+returns-2 c =
+    rw (c .numbers-of .ensures, numbers (c .before), c .before .before .before .before .before .blocks2 .ensures)
+    (line-worked _ _ (accepted (c .before .before)) _)
 
 pub line-spec : {M : Type 1} → statement M
-line-spec = tie.close (tie.spec blocks-requires is-worked-requires returns worked-requires returns-2)
+line-spec = tie.close (tie.spec blocks-requires is-worked-requires returns worked-requires numbers-of-requires returns-2)

@@ -1,13 +1,8 @@
--- `wall::worked` meets its contract: toe, stem and checks are those of the rules, and every number is small.
-use mathlib.Core.Path.{_≡_, _∙_}
-use native.Mathlib.Omega.{arith}
+-- `wall::worked` meets its contract: the toe is worked over the factored block of the rules.
 use borrow.Author.Needs.{needs}
-use Rattle.rules.specs.ToeAndStem.{toe, stem}
-use Rattle.rules.specs.SheetLine.{failures, line}
+use Rattle.rules.specs.SheetLine.{workedWall}
 use Rattle.rules.proofs.Examined.{fit}
-use Rattle.rules.proofs.Lines.{line-small}
-use Rattle.wall.specs.Numbers.{numbersOf}
-use Rattle.wall.proofs.Answers.{bears-toe, toe-is, failures-are, numbers-are}
+use Rattle.wall.proofs.Answers.{borne, bears-toe, toe-is}
 use Rattle.wall.proofs.worked.Statement.{statement}
 use Rattle.wall.proofs.worked.Tie as tie
 
@@ -19,26 +14,11 @@ toe-over-requires c κs =
 stem-under-requires : tie.Need-stem-under-requires
 stem-under-requires c κs = search needs
 
-failures-of-requires : tie.Need-failures-of-requires
-failures-of-requires c κs = search needs
-
--- the numbers that the code puts together are the line's
-numbers : (c : tie.After-failures-of) → let s = c .before .before .before in
-    numbersOf (s .args .number) (c .failures-of .result) (s .args .borne) (c .before .before .toe-over .result) (c .before .stem-under .result)
-    ≡ line (s .args .number) (s .args .wall) (s .args .loads)
-numbers c =
-    let s = c .before .before .before in
-    let its = s .pre .1 in
-    rw (c .failures-of .ensures, c .before .stem-under .ensures, c .before .before .toe-over .ensures, its, toe-is _ _ (s .pre .0), failures-are _ _ (s .pre .0))
-    (numbers-are _ _ (s .pre .0) _)
-
-numbers-of-requires : tie.Need-numbers-of-requires
-numbers-of-requires c κs =
-    let s = c .before .before .before in
-    rw (numbers c) (line-small _ (omega (arith, s .fits .number)) (fit _ _ (s .pre .0)))
-
 returns : tie.Need-returns
-returns c = c .numbers-of .ensures ∙ numbers (c .before)
+unfolding workedWall
+returns c =
+    let start = c .before .before in
+    rw (c .stem-under .ensures, c .before .toe-over .ensures, start .pre .1, toe-is _ _ (start .pre .0)) (cc (borne _ _ (start .pre .0)))
 
 pub worked-spec : {M : Type 1} → statement M
-worked-spec = tie.close (tie.spec toe-over-requires stem-under-requires failures-of-requires numbers-of-requires returns)
+worked-spec = tie.close (tie.spec toe-over-requires stem-under-requires returns)

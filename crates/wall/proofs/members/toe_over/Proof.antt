@@ -2,6 +2,7 @@
 use mathlib.Core.Path.{sym, _∙_}
 use native.Mathlib.Omega.{arith}
 use borrow.Author.Needs.{needs}
+use borrow.Author.Tests.{not-true, not-false}
 use Rattle.rules.proofs.Sections.{toe-workable}
 use Rattle.wall.proofs.Answers.{member-worked, no-toe, no-bearing, toe-worked}
 use Rattle.wall.proofs.members.toe_over.Statement.{statement}
@@ -16,14 +17,14 @@ no-member-requires c κs = search needs
 returns : tie.Need-returns
 returns c = c .no-member .ensures ∙ sym (no-toe _ _ (omega (arith, c .before .before .field .ensures)))
 
-is-none-requires : tie.Need-is-none-requires
-is-none-requires c κs = search needs
+is-given-requires : tie.Need-is-given-requires
+is-given-requires c κs = search needs
 
 no-member-requires-2 : tie.Need-no-member-requires-2
 no-member-requires-2 c κs = search needs
 
 returns-2 : tie.Need-returns-2
-returns-2 c = c .no-member2 .ensures ∙ sym (no-bearing _ _ (cc (c .before .before .is-none .ensures, c .before .if2 .taken)))
+returns-2 c = c .no-member2 .ensures ∙ sym (no-bearing _ _ (sym (c .before .before .is-given .ensures) ∙ not-true _ (c .before .if2 .taken)))
 
 toe-section-requires : tie.Need-toe-section-requires
 toe-section-requires c κs = search needs
@@ -40,7 +41,7 @@ returns-3 c =
     let start = judged .before .before .before .before in
     c .member .ensures
     ∙ rw (c .before .before .toe-section .ensures, c .before .toe-action .ensures) (member-worked _ _ (toe-workable _ (start .pre .0)))
-    ∙ sym (toe-worked _ _ (omega (arith, judged .before .before .before .field .ensures)) (cc (judged .before .is-none .ensures, judged .if2 .left)))
+    ∙ sym (toe-worked _ _ (omega (arith, judged .before .before .before .field .ensures)) (sym (judged .before .is-given .ensures) ∙ not-false _ (judged .if2 .left)))
 
 pub toe-over-spec : {M : Type 1} → statement M
 toe-over-spec =
@@ -49,7 +50,7 @@ toe-over-spec =
     field-requires
     no-member-requires
     returns
-    is-none-requires
+    is-given-requires
     no-member-requires-2
     returns-2
     toe-section-requires

@@ -1,19 +1,17 @@
 // Document 01, "The sheet line": the failures of a wall in one byte, one bit for each check.
 use record::ALLOWABLE_BEARING;
 use record::Wall;
-use rules::Block;
-use rules::Borne;
 use rules::Check;
-use rules::Kind;
 use rules::Member;
 use rules::Totals;
+use rules::WorkedWall;
 ghost use mathlib.Core.Path.{_≡_};
-ghost use mathlib.Core.Bool.{not, cond, _||_};
-ghost use Prim.Native.Nat.{_+_, _*_, _<_, _^_};
+ghost use mathlib.Core.Bool.{_||_, cond};
+ghost use Prim.Native.Nat.{_+_, _*_, _<_, _^_, max};
+ghost use lib.Dec.{ltb};
 ghost use lib.Signed.{ltZ};
-ghost use Rattle.rules.specs.Bearing.{isGiven};
-ghost use Rattle.rules.specs.SheetLine.{bit, checks, bitsAmong, isSet};
-ghost use Rattle.wall.specs.Verdict.{overAllowable, failsOn};
+ghost use Rattle.rules.specs.JobFile.{allowableBearing};
+ghost use Rattle.rules.specs.SheetLine.{bit, failuresBy, isSet};
 
 // N/m2 in a kN/m2.
 const PER_KILO: u64 = 1000;
@@ -34,8 +32,8 @@ fn shift_of(check: Check) -> u32
     }
 }
 
-// Is a check's bit set?
-pub fn is_set(failures: u8, check: Check) -> bool
+// Does a byte of failures have a check's bit?
+pub fn has_failed(failures: u8, check: Check) -> bool
     ensures { λ r. ⌜ r ≡ isSet failures check ⌝ }
 {
     (failures >> shift_of(check)) & 1 == 1
@@ -53,54 +51,43 @@ fn with_check(failures: u8, check: Check, fails: bool) -> u8
     }
 }
 
-// A block that isn't given.
-pub fn is_none(block: Block) -> bool
-    ensures { λ r. ⌜ r ≡ not (isGiven block) ⌝ }
-{
-    let kind = block.kind;
-    match kind {
-        Kind::NoBlock => true,
-        Kind::Full => false,
-        Kind::FromToe => false,
-        Kind::FromHeel => false,
-    }
-}
-
-fn either(a: bool, b: bool) -> bool
-    ensures { λ r. ⌜ r ≡ a || b ⌝ }
-{
-    if a { true } else { b }
-}
-
-// Service Mrest is less than Mot.
+// Mrest is less than Mot.
 fn overturns(totals: Totals) -> bool
     ensures { λ r. ⌜ r ≡ ltZ (totals .restoring) (totals .overturning) ⌝ }
 {
     totals.restoring < totals.overturning
 }
 
-// A service pressure is over the allowable.
+// A pressure is over the allowable.
 fn is_over_allowable(wall: Wall, toe: u64, heel: u64) -> bool
-    ensures { λ r. ⌜ r ≡ overAllowable wall toe heel ⌝ }
+    ensures { λ r. ⌜ r ≡ ltb (1000 * allowableBearing wall) (max toe heel) ⌝ }
 {
     PER_KILO * record::field(wall, ALLOWABLE_BEARING) < whole::greater(toe, heel)
 }
 
-// Every check of a wall, by what bears it and by its toe and stem, each set to the left of those before it.
-pub fn failures_of(wall: Wall, borne: Borne, toe: Member, stem: Member) -> u8
-    ensures { λ r. ⌜ r ≡ bitsAmong checks (λ check. failsOn check wall borne toe stem) ⌝ }
+// The toe fails in shear, or the stem does.
+fn is_sheared(toe: Member, stem: Member) -> bool
+    ensures { λ r. ⌜ r ≡ toe .sheared || stem .sheared ⌝ }
 {
+    toe.sheared | stem.sheared
+}
+
+// Every check of a wall that is worked, each set to the left of those before it.
+pub fn failures_of(wall: Wall, worked: WorkedWall) -> u8
+    ensures { λ r. ⌜ r ≡ failuresBy wall worked ⌝ }
+{
+    let borne = worked.borne;
     let turned = overturns(borne.forces.service);
     let pressed = is_over_allowable(wall, borne.service.toe, borne.service.heel);
-    let unborne = is_none(borne.service.block);
-    let unborne_factored = is_none(borne.factored.block);
-    let sheared = either(toe.sheared, stem.sheared);
+    let stands = bearing::is_given(borne.service.block);
+    let stands_factored = bearing::is_given(borne.factored.block);
+    let sheared = is_sheared(worked.toe, worked.stem);
     let failures = with_check(0, Check::Slides, borne.forces.sliding.slides);
     let failures = with_check(failures, Check::Overturns, turned);
     let failures = with_check(failures, Check::OverAllowable, pressed);
-    let failures = with_check(failures, Check::NoServiceBlock, unborne);
-    let failures = with_check(failures, Check::NoFactoredBlock, unborne_factored);
-    let failures = with_check(failures, Check::ToeSteel, toe.steel.fails);
-    let failures = with_check(failures, Check::StemSteel, stem.steel.fails);
+    let failures = with_check(failures, Check::NoServiceBlock, !stands);
+    let failures = with_check(failures, Check::NoFactoredBlock, !stands_factored);
+    let failures = with_check(failures, Check::ToeSteel, worked.toe.steel.fails);
+    let failures = with_check(failures, Check::StemSteel, worked.stem.steel.fails);
     with_check(failures, Check::Sheared, sheared)
 }

@@ -1,10 +1,9 @@
--- `wall::checks::failures_of` meets its contract: the bits add up in the order of the checks.
+-- `checks::failures_of` meets its contract: the bits add up in the order of the checks.
 use native.Mathlib.Omega.{arith}
 use borrow.Author.Needs.{needs}
-use Rattle.rules.specs.SheetLine.{bitsAmong}
-use Rattle.wall.specs.Verdict.{failsOn}
-use Rattle.wall.proofs.checks.failures_of.Statement.{statement}
-use Rattle.wall.proofs.checks.failures_of.Tie as tie
+use Rattle.rules.specs.SheetLine.{failsBy, bitsAmong, failuresBy}
+use Rattle.checks.proofs.failures_of.Statement.{statement}
+use Rattle.checks.proofs.failures_of.Tie as tie
 
 overturns-requires : tie.Need-overturns-requires
 overturns-requires c κs = search needs
@@ -12,14 +11,14 @@ overturns-requires c κs = search needs
 is-over-allowable-requires : tie.Need-is-over-allowable-requires
 is-over-allowable-requires c κs = search needs
 
-is-none-requires : tie.Need-is-none-requires
-is-none-requires c κs = search needs
+is-given-requires : tie.Need-is-given-requires
+is-given-requires c κs = search needs
 
-is-none-requires-2 : tie.Need-is-none-requires-2
-is-none-requires-2 c κs = search needs
+is-given-requires-2 : tie.Need-is-given-requires-2
+is-given-requires-2 c κs = search needs
 
-either-requires : tie.Need-either-requires
-either-requires c κs = search needs
+is-sheared-requires : tie.Need-is-sheared-requires
+is-sheared-requires c κs = search needs
 
 with-check-requires : tie.Need-with-check-requires
 with-check-requires c κs = search needs
@@ -46,11 +45,16 @@ with-check-requires-8 : tie.Need-with-check-requires-8
 with-check-requires-8 c κs = search needs
 
 returns : tie.Need-returns
-unfolding bitsAmong failsOn
+unfolding failuresBy bitsAmong failsBy
 returns c =
     let tests = c .before .before .before .before .before .before .before .before in
-    rw
-    (← tests .either .ensures, ← tests .before .is-none2 .ensures, ← tests .before .before .is-none .ensures, ← tests .before .before .before .is-over-allowable .ensures, ← tests .before .before .before .before .overturns .ensures)
+    rw (
+      ← tests .is-sheared .ensures,
+      ← tests .before .is-given2 .ensures,
+      ← tests .before .before .is-given .ensures,
+      ← tests .before .before .before .is-over-allowable .ensures,
+      ← tests .before .before .before .before .overturns .ensures,
+    )
     (omega arith)
 
 pub failures-of-spec : {M : Type 1} → statement M
@@ -59,9 +63,9 @@ failures-of-spec =
     (tie.spec
     overturns-requires
     is-over-allowable-requires
-    is-none-requires
-    is-none-requires-2
-    either-requires
+    is-given-requires
+    is-given-requires-2
+    is-sheared-requires
     with-check-requires
     with-check-requires-2
     with-check-requires-3

@@ -1,10 +1,10 @@
--- `wall::checks::is_set` meets its contract: the mask takes the lowest digit of what is shifted.
+-- `checks::has_failed` meets its contract: the mask takes the lowest digit of what is shifted.
 use Prim.Native.Nat.{_/_, _^_}
 use borrow.Author.Needs.{needs}
 use lib.Bits.{and-mask}
 use Rattle.rules.specs.SheetLine.{isSet}
-use Rattle.wall.proofs.checks.is_set.Statement.{statement}
-use Rattle.wall.proofs.checks.is_set.Tie as tie
+use Rattle.checks.proofs.has_failed.Statement.{statement}
+use Rattle.checks.proofs.has_failed.Tie as tie
 
 shift-of-requires : tie.Need-shift-of-requires
 shift-of-requires c κs = search needs
@@ -19,5 +19,5 @@ returns : tie.Need-returns
 unfolding isSet
 returns c = rw (← c .shift-of .ensures .0, and-mask (c .before .args .failures / 2 ^ c .shift-of .result) 1)
 
-pub is-set-spec : {M : Type 1} → statement M
-is-set-spec = tie.close (tie.spec shift-of-requires cast-result shr-result returns)
+pub has-failed-spec : {M : Type 1} → statement M
+has-failed-spec = tie.close (tie.spec shift-of-requires cast-result shr-result returns)
