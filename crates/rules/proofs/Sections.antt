@@ -1,22 +1,21 @@
 -- The sections of an accepted wall are workable, and what it tells of a section that it is: each of its numbers is small, and so is the steel that it requires.
 use mathlib.Core.Path.{_≡_, refl}
-use mathlib.Core.Bool.{Bool, true, _&&_}
-use mathlib.Core.List.{List, [], _∷_}
+use mathlib.Core.Bool.{true, and-eq-true-iff}
 use Prim.Native.Nat.{ℕ, _*_, _≤_}
 use native.Mathlib.Nat.{mul-le-mul}
 use native.Mathlib.Omega.{arith}
-use borrow.Author.Tests.{le-leb}
-use lib.Dec.{T, leb, ltb, leb→le, ltb→lt, nltb→le}
+use borrow.Author.Tests.{le-leb, leb-true}
+use lib.Dec.{T, leb, ltb, ltb→lt, nltb→le}
+use lib.Ieee.Bits.{is-true}
 use lib.ListN.{getD}
 use Rattle.whole.proofs.Integer.{case}
-use Rattle.whole.proofs.Lists.{All, all-at}
 use Rattle.whole.proofs.Rounded.{up-within}
 use Rattle.rules.specs.declared.Range.the-variants.{Between, ABar}
 use Rattle.rules.specs.declared.Section.{Section}
 use Rattle.rules.specs.JobFile.{Wall, wallFields, ranges, wallFits}
 use Rattle.rules.specs.Forces.{squared}
 use Rattle.rules.specs.ToeAndStem.{sectionOf, toeSection, stemSection, twiceDepth, needsCompression, leverArm, neededArea, leastArea, requiredArea, greatestSection, isWorkable}
-use Rattle.rules.proofs.Accepted.{both, field-between, field-bar, bar-most}
+use Rattle.rules.proofs.Accepted.{field-between, field-bar, bar-most}
 use Rattle.rules.proofs.Sizes.{Small}
 
 -- no number of a section is greater than it is in any wall
@@ -32,33 +31,9 @@ pub record Bounded (s : Section) : Type 0 where
 
 -- ---- that is what it takes to be workable
 
--- numbers, each with its bound, tested one after the other behind another test
-abbrev tested : Bool → List (ℕ × ℕ) → Bool
-tested before [] = before
-tested before (n ∷ ns) = tested (before && leb (n .0) (n .1)) ns
-
-abbrev AtMost : ℕ × ℕ → Type 0
-AtMost n = n .0 ≤ n .1
-
-all-most : (before : Bool) (ns : List (ℕ × ℕ)) → T (tested before ns) → T before × All AtMost ns
-all-most before [] t = (t, tt)
-all-most before (n ∷ ns) t =
-    let h = all-most (before && leb (n .0) (n .1)) ns t in
-    let k = both before (leb (n .0) (n .1)) (h .0) in
-    (k .0, (leb→le (n .0) (n .1) (k .1), h .1))
-
--- those of a section, in the order of its tests
-abbrev numbers : Section → List (ℕ × ℕ)
-numbers s =
-    let most = greatestSection in
-    (s .thickness, most .thickness) ∷ (s .cover, most .cover) ∷ (s .bar, most .bar) ∷ (s .spacing, most .spacing) ∷ (s .stress, most .stress)
-    ∷ (s .concrete, most .concrete) ∷ (s .steel, most .steel) ∷ (s .least, most .least) ∷ []
-
 pub bounded : (s : Section) → T (isWorkable s) → Bounded s
 unfolding isWorkable
-bounded s t =
-    let at = all-at AtMost (0, 0) (omega arith) (numbers s) (all-most true (numbers s) t .1) in
-    record { thickness = at 0; cover = at 1; bar = at 2; spacing = at 3; stress = at 4; concrete = at 5; steel = at 6; least = at 7 }
+bounded s t = omega (arith, leb-true, simp and-eq-true-iff at (is-true (isWorkable s) t))
 
 pub workable : {s : Section} → Bounded s → T (isWorkable s)
 unfolding isWorkable

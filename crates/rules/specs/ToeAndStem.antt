@@ -13,7 +13,6 @@ use Rattle.rules.specs.declared.Kind.the-variants.{Full, FromToe, FromHe
 use Rattle.rules.specs.declared.Block.{Block}
 use Rattle.rules.specs.declared.Section.{Section}
 use Rattle.rules.specs.declared.Action.{Action}
-use Rattle.rules.specs.declared.Steel.{Steel}
 use Rattle.rules.specs.declared.Member.{Member}
 use Rattle.rules.specs.JobFile.{Wall, Load, stemHeight, stemThickness, toeLength, baseThickness, baseDensity, restCoefficient, concreteStrength, steelStrength, leastSteel, toeCover, toeBar, toeSpacing, stemCover, stemBar, stemSpacing, toeStress, stemStress, baseLength, bars, isDown, position, deadLoad, liveLoad}
 use Rattle.rules.specs.Answered.{fits}

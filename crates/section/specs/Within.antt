@@ -1,19 +1,7 @@
 -- How big the numbers are that a section is worked from.
 use Prim.Native.Nat.{ℕ, _*_, _≤_}
-use Rattle.rules.specs.declared.Section.{Section}
 use Rattle.rules.specs.Forces.{squared}
 use Rattle.rules.specs.ToeAndStem.{greatestSection}
-
--- none of its eight numbers is greater than in any wall
-pub record Workable (s : Section) : Type 0 where
-  pub thickness : s .thickness ≤ greatestSection .thickness
-  pub cover : s .cover ≤ greatestSection .cover
-  pub bar : s .bar ≤ greatestSection .bar
-  pub spacing : s .spacing ≤ greatestSection .spacing
-  pub stress : s .stress ≤ greatestSection .stress
-  pub concrete : s .concrete ≤ greatestSection .concrete
-  pub steel : s .steel ≤ greatestSection .steel
-  pub least : s .least ≤ greatestSection .least
 
 -- D is at most twice the thickness
 abbrev pub deepest : ℕ

@@ -6,7 +6,8 @@ ghost use mathlib.Core.Path.{_≡_};
 ghost use Prim.Native.Nat.{_≤_};
 ghost use Rattle.whole.specs.Rounding.{roundedUp, roundedDown};
 ghost use Rattle.rules.specs.ToeAndStem.{greatestSection, twiceDepth, needsCompression, bears, leverArm, neededArea, leastArea, barArea, providedArea};
-ghost use Rattle.section.specs.Within.{Workable, Within, deepest, greatestMoment};
+ghost use Rattle.rules.proofs.Sections.{Bounded};
+ghost use Rattle.section.specs.Within.{Within, deepest, greatestMoment};
 ghost use Rattle.section.specs.Steels.{steelUnder};
 
 // The width that steel is worked for, in mm.
@@ -22,7 +23,7 @@ const HUNDREDTHS: u64 = 100;
 
 // D: twice the depth.
 pub fn twice_depth(section: Section) -> u64
-    requires { ⌜ Workable section ⌝ }
+    requires { ⌜ Bounded section ⌝ }
     ensures { λ r. ⌜ (r ≡ twiceDepth section) × (r ≤ deepest) ⌝ }
 {
     let covered = whole::excess(2 * section.thickness, 2 * section.cover);
@@ -45,12 +46,12 @@ fn lever_bears(m: u64, fcu: u64, d: u64, z: u64) -> bool
     (20 * z <= 19 * d) & (d <= 2 * z) & (m <= 225 * fcu * z * (d - z))
 }
 
-// Z, twice the lever arm: the greatest number that passes the three tests, and so at most D.
+// Z, twice the lever arm: the greatest number that passes the three tests. By the first it is at most 0.95 D.
 pub fn lever_arm(m: u64, fcu: u64, d: u64) -> u64
     requires { ⌜ Within fcu d ⌝ }
     ensures { λ r. ⌜ (r ≡ leverArm m fcu d) × (r ≤ d) ⌝ }
 {
-    let mut z = d;
+    let mut z = 19 * d / 20;
     while 0 < z {
         if lever_bears(m, fcu, d, z) {
             return z;
@@ -82,7 +83,7 @@ pub fn needed_area(m: u64, fy: u64, z: u64) -> u64
 }
 
 fn least_area(section: Section) -> u64
-    requires { ⌜ Workable section ⌝ }
+    requires { ⌜ Bounded section ⌝ }
     ensures { λ r. ⌜ r ≡ leastArea section ⌝ }
 {
     asked(section.least * METRE * section.thickness, TEN_THOUSANDTHS)
@@ -110,7 +111,7 @@ pub fn provided_area(bar: u64, spacing: u64) -> u64
 
 // The area required under a moment, and whether less is provided. Where compression steel would be needed no area is given, and the steel fails.
 pub fn steel_of(section: Section, m: u64) -> Steel
-    requires { ⌜ Workable section ⌝ }
+    requires { ⌜ Bounded section ⌝ }
     ensures { λ r. ⌜ r ≡ steelUnder section m ⌝ }
 {
     let d = twice_depth(section);

@@ -1,10 +1,12 @@
 -- `section::steel::lever_arm` meets its contract. The invariant: the lever arm is the greatest number up to the next one that passes the three tests.
-use mathlib.Core.Path.{_≡_, refl, sym, _∙_}
-use Prim.Native.Nat.{_≤_}
+use mathlib.Core.Path.{_≡_, sym, _∙_}
+use mathlib.Core.Bool.{false}
+use Prim.Native.Nat.{ℕ, _*_, _/_, _≤_, _<_}
 use native.Mathlib.Omega.{arith}
 use borrow.Author.Needs.{needs}
+use borrow.Author.Tests.{lt-leb}
 use Rattle.rules.specs.ToeAndStem.{bears, greatest, leverArm}
-use Rattle.section.proofs.Greatest.{passes, fails}
+use Rattle.section.proofs.Greatest.{passes, fails, skips}
 use Rattle.section.proofs.steel.lever_arm.Statement.{statement}
 use Rattle.section.proofs.steel.lever_arm.Tie as tie
 
@@ -14,9 +16,17 @@ Inv-loop m fcu d z₀ z = (z ≤ d) × (leverArm m fcu d ≡ greatest (bears m f
 abbrev μ-loop : tie.MeasureT-loop
 μ-loop m fcu d z₀ z = z
 
+-- above 0.95 D the first test fails
+too-long : (m fcu d z : ℕ) → 19 * d / 20 < z → bears m fcu d z ≡ false
+unfolding bears
+too-long m fcu d z h = rw (lt-leb (20 * z) (19 * d) (omega arith))
+
+mul-z : tie.Need-mul-z Inv-loop μ-loop
+mul-z c = search needs
+
 loop-holds : tie.Need-loop-holds Inv-loop μ-loop
 unfolding leverArm
-loop-holds c = (omega arith, refl)
+loop-holds c = (omega arith, skips _ _ _ (omega arith) (too-long _ _ _))
 
 lever-bears-requires : tie.Need-lever-bears-requires Inv-loop μ-loop
 lever-bears-requires c κs = search needs
@@ -47,6 +57,7 @@ lever-arm-spec =
     (tie.spec
     Inv-loop
     μ-loop
+    mul-z
     loop-holds
     lever-bears-requires
     returns
