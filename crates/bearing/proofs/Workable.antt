@@ -1,5 +1,4 @@
 -- The totals that are answered of any wall with its loads can be worked into a block: those of one that fits are small, and those of a refused one are 0.
-use mathlib.Core.Bool.{Bool, true, false, cond}
 use mathlib.Core.List.{List}
 use Prim.Native.Nat.{ℕ, _*_, _≤_, _<_, _^_}
 use native.Mathlib.Nat.{mul-le-mul, mul-le-mul-left}
@@ -9,6 +8,7 @@ use lib.IntN.{ℤ, pos, negsuc, _*ℤ_}
 use lib.Signed.{_<ℤ_, ≤ℤ-refl}
 use Rattle.whole.specs.Parts.{aboveZero}
 use Rattle.whole.proofs.Integer.{≤ℤ-of-<ℤ, pos-<ℤ}
+use Rattle.whole.proofs.Lists.{case}
 use Rattle.rules.specs.declared.Totals.{Totals}
 use Rattle.rules.specs.declared.Forces.{Forces}
 use Rattle.rules.specs.JobFile.{Wall, Load, baseLength}
@@ -45,11 +45,7 @@ module _ (wall : Wall) (loads : List Load) where
   -- what holds of the forces on a wall that fits with its loads, and of a refusal, holds of any answer
   answered : (P : Forces → Type 0) → (T (fits wall loads) → P (workedForces wall loads)) → P (noForces (examined wall loads)) → P (forcesOf wall loads)
   unfolding forcesOf
-  answered P f g = go (fits wall loads) f
-    where
-      go : (b : Bool) → (T b → P (workedForces wall loads)) → P (cond b (workedForces wall loads) (noForces (examined wall loads)))
-      go true f = f tt
-      go false f = g
+  answered P f g = case (fits wall loads) _ _ P f (λ t. g)
 
   long : T (fits wall loads) → (0 < baseLength wall) × (baseLength wall ≤ 11500)
   long t = omega (arith, base-length (wall-within wall (fit wall loads t .wall-fits)))

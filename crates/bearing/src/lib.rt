@@ -12,7 +12,7 @@ ghost use Rattle.rules.specs.Bearing.{isGiven, bearingOf};
 // N/m2 in a kN/m2, and in a tenth of one.
 const SERVICE_SCALE: u64 = 1000;
 
-const FACTORED_SCALE: u64 = 100;
+pub const FACTORED_SCALE: u64 = 100;
 
 // The forces on a wall under its loads and the blocks that bear them; of a refused wall the refusal, and no block.
 pub fn blocks(wall: Wall, loads: Loads) -> Borne

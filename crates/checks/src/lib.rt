@@ -1,4 +1,4 @@
-// Document 01, "The sheet line": the failures of a wall in one byte, one bit for each check.
+// Document 01, "The sheet line": the byte of a wall's failures. A check's bit is set by a shift and an or, and tested by a shift and a mask.
 use record::ALLOWABLE_BEARING;
 use record::Wall;
 use rules::Check;

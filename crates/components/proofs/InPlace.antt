@@ -55,9 +55,9 @@ unfolding loadTable deadRow liveRow loadRow rowsIn partRow
 in-place weights pushes loads = simp (map-append, map-map, of-either (λ (c : Component). c .row), append-assoc)
 
 -- a wall that fits with its loads has its components in its tables
-pub of-fit : (case : Case) (wall : Wall) (loads : List Load) → T (fits wall loads) → tableOf case wall loads ≡ rowsOf (componentsFor case wall loads)
+pub of-fit : (which : Case) (wall : Wall) (loads : List Load) → T (fits wall loads) → tableOf which wall loads ≡ rowsOf (componentsFor which wall loads)
 unfolding tableOf
-of-fit case wall loads t = rw (is-true (fits wall loads) t)
+of-fit which wall loads t = rw (is-true (fits wall loads) t)
 
 -- how many weights, pushes and loads there are
 pub record Counted (weights pushes : List (List ℤ)) (loads : List Load) : Type 0 where

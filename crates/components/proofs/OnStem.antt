@@ -1,6 +1,6 @@
 -- The stem's table in the places that a wall's table has: its loads fit the wall, and each of its columns has the sum that the rules give it.
 use mathlib.Core.Path.{_≡_, refl}
-use mathlib.Core.Bool.{Bool, true, false, cond}
+use mathlib.Core.Bool.{Bool, true, false}
 use mathlib.Core.List.{List, [], _∷_, map}
 use Prim.Native.Nat.{ℕ, _-_}
 use native.Mathlib.Omega.{arith}
@@ -9,6 +9,7 @@ use lib.Dec.{T, ltb, eqb}
 use lib.IntN.{ℤ, pos, _+ℤ_, _*ℤ_, +ℤ-idl, +ℤ-idr, *ℤ-zero}
 use lib.ListN.{getD, length-map, List·getD-map}
 use Rattle.whole.specs.Sum.{sumOf}
+use Rattle.whole.proofs.Lists.{case}
 use Rattle.whole.proofs.Sums.{sumOf-add, sumOf-joined, sumOf-map}
 use Rattle.rules.specs.JobFile.{Wall, Load, baseThickness, direction, isDown, position, deadLoad, liveLoad, greatestLoad, reach, loadFits}
 use Rattle.rules.specs.Forces.{Sort, Component, loadRow, deadRow, liveRow, loadTable, columnSum}
@@ -23,11 +24,7 @@ use Rattle.components.specs.Tables.{reachesStem, onStem, noRow, nothing,
 either-load : (P : Load → Type 0) (top : ℕ) (load : Load) → P (direction load ∷ (position load - top) ∷ deadLoad load ∷ liveLoad load ∷ [])
     → P (direction load ∷ 0 ∷ 0 ∷ 0 ∷ []) → P (onStem top load)
 unfolding onStem
-either-load P top load p q = go (reachesStem top load)
-  where
-    go : (b : Bool) → P (cond b (direction load ∷ (position load - top) ∷ deadLoad load ∷ liveLoad load ∷ []) (direction load ∷ 0 ∷ 0 ∷ 0 ∷ []))
-    go true = p
-    go false = q
+either-load P top load p q = case (reachesStem top load) _ _ P (λ t. p) (λ t. q)
 
 -- it keeps its way
 pub same-way : (top : ℕ) (load : Load) → isDown (onStem top load) ≡ isDown load

@@ -1,5 +1,4 @@
-// Document 01, "Forces": the component tables of a wall under its loads, one row of vertical, horizontal and moment for each component. The stem
-// has one of its own.
+// Document 01, "Forces": the component tables of a wall under its loads, at Ka and at K0, and that of its stem.
 mod pushes;
 mod rows;
 mod stem;
@@ -15,8 +14,6 @@ ghost use mathlib.Core.Path.{_≡_};
 ghost use Rattle.rules.specs.Answered.{fits};
 ghost use Rattle.components.specs.Tables.{tableOf};
 
-pub type Row = [i64; 3];
-
 // Where the dead parts of the loads begin, where the live parts do, and how many rows there are.
 pub const FIRST_DEAD: usize = table::FIRST_DEAD;
 
@@ -24,7 +21,7 @@ pub const FIRST_LIVE: usize = table::FIRST_LIVE;
 
 pub const COMPONENTS: usize = table::COMPONENTS;
 
-pub type Table = [Row; COMPONENTS];
+pub type Table = table::Table;
 
 // Whose table it is, and at which coefficient: the wall's at Ka, the wall's at K0, or the stem's.
 pub enum Case {
@@ -43,7 +40,7 @@ fn is_fit(wall: Wall, loads: Loads) -> bool
     record::first_unfit(wall, loads) == 0
 }
 
-// The component table of a wall under its loads; of a refused wall one with nothing in it.
+// The component table of a wall under its loads; of a refused wall one with nothing in it, which no accepted wall has.
 pub fn table_of(wall: Wall, loads: Loads, case: Case) -> Table
     ensures { λ r. ⌜ r ≡ tableOf case wall loads ⌝ }
 {

@@ -7,11 +7,11 @@ use lib.Dec.{ltb}
 use lib.IntN.{ℤ, pos, negsuc, _-ℤ_}
 use lib.Signed.{ltZ}
 use Rattle.whole.specs.Parts.{aboveZero}
-use Rattle.whole.proofs.Integer.{diff-sub, itself, above-diff}
+use Rattle.whole.proofs.Integer.{above-minus}
 
 -- what two forces leave of it
 pub left-of : (H : ℤ) (p f : ℕ) → aboveZero (H -ℤ pos p -ℤ pos f) ≡ aboveZero H - (p + f)
-left-of H p f = omega (arith, above-diff H (itself H), above-diff _ (diff-sub (diff-sub (itself H) (itself (pos p))) (itself (pos f))))
+left-of H p f = omega (arith, above-minus H p, above-minus (H -ℤ pos p) f)
 
 -- it is more than a whole number where that part is
 pub more-than : (n : ℕ) (H : ℤ) → ltZ (pos n) H ≡ ltb n (aboveZero H)

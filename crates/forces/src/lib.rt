@@ -89,7 +89,8 @@ pub fn totals(wall: Wall, loads: Loads) -> Forces
     worked(wall, loads)
 }
 
-// What acts on the stem at the top of the base, factored and rounded up; 0 of a refused wall, whose table has nothing in it.
+// What acts on the stem at the top of the base, factored and rounded up. A refused wall, whose table has nothing in it, has a shear of 0; an
+// accepted one has fill behind its stem, and so more.
 pub fn stem_action(wall: Wall, loads: Loads) -> Action
     ensures { λ r. ⌜ r ≡ stemActionOf wall loads ⌝ }
 {

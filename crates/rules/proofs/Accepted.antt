@@ -135,8 +135,12 @@ wall-within wall fits =
     of : (i : ℕ) {low high : ℕ} → T (ltb i wallFields) → getD ranges i ABar ≡ Between low high → Lies low high (getD wall i 0)
     of i {low} {high} h e = field-between wall fits i low high (ltb→lt i wallFields h) e
 
+-- the longest base: a toe, a stem and a heel of the greatest lengths
+abbrev pub longest : ℕ
+longest = 11500
+
 -- the base's length and the wall's height, by those of their parts
-pub base-length : {wall : Wall} → WallWithin wall → Lies 200 11500 (baseLength wall)
+pub base-length : {wall : Wall} → WallWithin wall → Lies 200 longest (baseLength wall)
 unfolding baseLength
 base-length w = omega arith
 

@@ -1,5 +1,4 @@
--- Document 01, "The sheet line": failures stand in one byte, one bit for each check. A bit is set just where document 01's own words of its check hold,
--- and no other bit is ever set.
+-- Document 01, "The sheet line": what the byte of failures tells. A bit is set just where the words of its check hold, and no other bit is ever set.
 use mathlib.Core.Path.{_≡_, refl, _∙_}
 use mathlib.Core.Logic.{_↔_, Iff·trans, _≢_, _⊎_, inl, inr, ⊎-elim, dite}
 use mathlib.Core.Bool.{Bool, true, false, not, _&&_, _||_, cond, and-assoc}
@@ -104,12 +103,12 @@ module _ (picks : Check → Bool) where
       let e : n * 2 ^ suc k ≡ 2 * n * 2 ^ k = rw doubled (omega arith) in rw e (check-at (2 * n) rest (h .1) k t)
 
 -- a byte has the bits of the checks that a test picks, and no other
-pub record Tells (byte : ℕ) (picks : Check → Bool) : Type 0 where
-  pub one-byte : byte < 256
-  pub each : (check : Check) → isSet byte check ≡ picks check
-  pub only : (k : ℕ) → byte / 2 ^ k % 2 ≡ 1 → (check : Check) × (bit check ≡ 2 ^ k) × T (picks check)
+record Tells (byte : ℕ) (picks : Check → Bool) : Type 0 where
+  one-byte : byte < 256
+  each : (check : Check) → isSet byte check ≡ picks check
+  only : (k : ℕ) → byte / 2 ^ k % 2 ≡ 1 → (check : Check) × (bit check ≡ 2 ^ k) × T (picks check)
 
-pub tells : (picks : Check → Bool) → Tells (bitsAmong checks picks) picks
+tells : (picks : Check → Bool) → Tells (bitsAmong checks picks) picks
 tells picks =
     record {
       one-byte = omega (arith, digits-of picks 1 checks doubling, digits-below (map picks checks));
@@ -218,14 +217,10 @@ shear-broken : (s : Section) (shear : ℕ) → Passed (shearFails s shear) (Shea
 unfolding shearFails
 shear-broken s shear = rw and-assoc (negated (not-both not-less (not-both not-most not-most)))
 
--- the checks of a member that may not be there: neither is made of one that isn't
-steel-if : (b : Bool) (m : Member) → cond b m noMember .steel .fails ≡ (b && m .steel .fails)
-steel-if true m = refl
-steel-if false m = refl
-
-shear-if : (b : Bool) (m : Member) → cond b m noMember .sheared ≡ (b && m .sheared)
-shear-if true m = refl
-shear-if false m = refl
+-- a check of a member that may not be there: it isn't made of one that isn't
+check-if : (check : Member → Bool) → check noMember ≡ false → (b : Bool) (m : Member) → check (cond b m noMember) ≡ (b && check m)
+check-if check e true m = refl
+check-if check e false m = e
 
 module _ (wall : Wall) (loads : List Load) where
   toe-checked : Passed (toeWorked wall (factoredBlock wall loads)) (ToeChecked wall loads)
@@ -240,9 +235,9 @@ module _ (wall : Wall) (loads : List Load) where
   decided OverAllowable = less-than-either
   decided NoServiceBlock = negated not-given
   decided NoFactoredBlock = negated not-given
-  decided ToeSteel = rw steel-if (and toe-checked (steel-short _ _))
+  decided ToeSteel = rw (check-if (λ m. m .steel .fails) refl) (and toe-checked (steel-short _ _))
   decided StemSteel = steel-short _ _
-  decided Sheared = rw shear-if (or (and toe-checked (shear-broken _ _)) (shear-broken _ _))
+  decided Sheared = rw (check-if (λ m. m .sheared) refl) (or (and toe-checked (shear-broken _ _)) (shear-broken _ _))
 
   pub stated : (check : Check) → T (fails check wall loads) ↔ Stated check wall loads
   stated check = decided check .passed

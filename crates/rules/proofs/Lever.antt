@@ -45,6 +45,23 @@ module _ (p : ℕ → Bool) where
       go false e earlier =
           ⊎-elim (λ (s : k ≡ suc n). absurd (rw e at (subst (λ (m : ℕ). T (p m)) s t))) (λ (l : k < suc n). earlier (omega arith) t) (eq-or-lt-of-le h)
 
+  -- it is found from above: one that passes is it, one that fails is passed over, and so are all from m down to n where none of them passes
+  pub greatest-here : (n : ℕ) → 0 < n → p n ≡ true → greatest p n ≡ n
+  unfolding greatest
+  greatest-here zero h e = absurd (omega arith)
+  greatest-here (suc n) h e = rw (e, greatest)
+
+  pub greatest-below : (n : ℕ) → 0 < n → p n ≡ false → greatest p n ≡ greatest p (n - 1)
+  unfolding greatest
+  greatest-below zero h e = absurd (omega arith)
+  greatest-below (suc n) h e = let k : suc n - 1 ≡ n = omega arith in rw (k, e, greatest)
+
+  pub greatest-from : (m n : ℕ) → n ≤ m → ((k : ℕ) → n < k → p k ≡ false) → greatest p m ≡ greatest p n
+  unfolding greatest
+  greatest-from zero n h none = let e : n ≡ 0 = omega arith in rw e
+  greatest-from (suc m) n h none =
+      ⊎-elim (λ (e : n ≡ suc m). rw e) (λ (l : n < suc m). rw (greatest, none (suc m) l) (greatest-from m n (omega arith) none)) (eq-or-lt-of-le h)
+
 -- ---- the lever arm
 
 -- where some number keeps the three tests, the lever arm does, and is no less
@@ -78,13 +95,13 @@ deep thickness cover bar h k l = omega arith
 
 -- D is at least 210
 pub toe-depth : (wall : Wall) → T (wallFits wall) → 210 ≤ twiceDepth (toeSection wall)
-unfolding twiceDepth toeSection
+unfolding twiceDepth
 toe-depth wall fits =
     deep (baseThickness wall) (toeCover wall) (toeBar wall) (field-between wall fits 5 200 1500 (lit< tt) refl .0)
     (field-between wall fits 23 20 75 (lit< tt) refl .1) (bar-most (toeBar wall) (field-bar wall fits 24 (lit< tt) refl))
 
 pub stem-depth : (wall : Wall) → T (wallFits wall) → 210 ≤ twiceDepth (stemSection wall)
-unfolding twiceDepth stemSection
+unfolding twiceDepth
 stem-depth wall fits =
     deep (stemThickness wall) (stemCover wall) (stemBar wall) (field-between wall fits 2 200 1500 (lit< tt) refl .0)
     (field-between wall fits 26 20 75 (lit< tt) refl .1) (bar-most (stemBar wall) (field-bar wall fits 27 (lit< tt) refl))
@@ -95,12 +112,12 @@ HasLever s =
     (M : ℕ) → T (not (needsCompression M (s .concrete) (twiceDepth s)))
     → Bears M (s .concrete) (twiceDepth s) (leverArm M (s .concrete) (twiceDepth s))
 
-deep-lever : (s : Section) → 210 ≤ twiceDepth s → HasLever s
+pub deep-lever : (s : Section) → 2 ≤ twiceDepth s → HasLever s
 unfolding needsCompression
-deep-lever s h M t = lever-exists M (s .concrete) (twiceDepth s) (omega arith) (nltb→le (39 * s .concrete * squared (twiceDepth s)) M t)
+deep-lever s h M t = lever-exists M (s .concrete) (twiceDepth s) h (nltb→le (39 * s .concrete * squared (twiceDepth s)) M t)
 
 pub toe-lever : (wall : Wall) → T (wallFits wall) → HasLever (toeSection wall)
-toe-lever wall fits = deep-lever (toeSection wall) (toe-depth wall fits)
+toe-lever wall fits = deep-lever (toeSection wall) (omega (arith, toe-depth wall fits))
 
 pub stem-lever : (wall : Wall) → T (wallFits wall) → HasLever (stemSection wall)
-stem-lever wall fits = deep-lever (stemSection wall) (stem-depth wall fits)
+stem-lever wall fits = deep-lever (stemSection wall) (omega (arith, stem-depth wall fits))

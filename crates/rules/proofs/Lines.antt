@@ -11,8 +11,8 @@ use lib.ListN.{length, length-append}
 use lib.Signed.{_≤ℤ_}
 use Rattle.whole.specs.Parts.{aboveZero}
 use Rattle.whole.specs.Rounding.{roundedUp}
-use Rattle.whole.proofs.Integer.{case, ≤ℤ-of-<ℤ, pos-≤ℤ, sub-<ℤ, above-less, abs-less}
-use Rattle.whole.proofs.Lists.{All, all-joined}
+use Rattle.whole.proofs.Integer.{≤ℤ-of-<ℤ, pos-≤ℤ, sub-<ℤ, above-less, abs-less}
+use Rattle.whole.proofs.Lists.{All, all-joined, case}
 use Rattle.whole.proofs.Rounded.{up-within}
 use Rattle.rules.specs.declared.Block.{Block}
 use Rattle.rules.specs.declared.Section.{Section}
@@ -28,13 +28,13 @@ use Rattle.rules.proofs.Examined.{AllFit, Fit}
 use Rattle.rules.proofs.Bits.{one-byte}
 use Rattle.rules.proofs.Pressures.{Pressable, WithinPeak, given-most, factored-pressable, reported-most, pressure-most}
 use Rattle.rules.proofs.Sections.{toe-workable, stem-workable, required-most}
-use Rattle.rules.proofs.Sizes.{Sound, push, pushes-sound, Small, Moderate, each, row-at, column-moderate, service-sized}
+use Rattle.rules.proofs.Sizes.{Sound, push, pushes-sound, stem-face, Small, Moderate, each, row-at, column-moderate, service-sized}
 
 -- a member's figures are small
-pub record SmallMember (m : Member) : Type 0 where
-  pub shear : Small (m .action .shear)
-  pub moment : Small (m .action .moment)
-  pub required : Small (m .steel .required)
+record SmallMember (m : Member) : Type 0 where
+  shear : Small (m .action .shear)
+  moment : Small (m .action .moment)
+  required : Small (m .steel .required)
 
 -- those of a workable section are where what acts on it is
 member-small : (s : Section) → T (isWorkable s) → (a : Action) → Small (a .shear) × Small (a .moment) → SmallMember (memberUnder s a)
@@ -49,7 +49,7 @@ quotient-small a d h = omega (arith, up-within a d)
 
 -- twice its arm; the arm ends on the base, and so does the toe
 pub arm-most : {wall : Wall} → WallWithin wall → (twiceArm wall ≤ 11500) × (twiceArm wall ≤ 2 * baseLength wall) × (2 * toeLength wall ≤ 2 * baseLength wall)
-unfolding twiceArm baseLength
+unfolding baseLength
 arm-most w = omega arith
 
 module _ (wall : Wall) (b : Block) (w : WallWithin wall) (p : Pressable (baseLength wall) b) where
@@ -58,7 +58,7 @@ module _ (wall : Wall) (b : Block) (w : WallWithin wall) (p : Pressable (baseLen
   pressed = pressure-most p
 
   -- what presses on it, less its own weight
-  pub toe-action-small : Small (toeAction wall b .shear) × Small (toeAction wall b .moment)
+  toe-action-small : Small (toeAction wall b .shear) × Small (toeAction wall b .moment)
   unfolding toeAction shearOfBearing momentOfBearing
   toe-action-small =
       let arm = arm-most w in
@@ -71,7 +71,7 @@ module _ (wall : Wall) (b : Block) (w : WallWithin wall) (p : Pressable (baseLen
       let turn : Small (momentOfBearing wall b) = quotient-small _ _ (omega (arith, mul-le-mul start square, mul-le-mul middle square)) in
       omega arith
 
-pub toe-small : (wall : Wall) (loads : List Load) → Fit wall loads → SmallMember (toe wall loads)
+toe-small : (wall : Wall) (loads : List Load) → Fit wall loads → SmallMember (toe wall loads)
 unfolding toe toeUnder
 toe-small wall loads fit =
     let b = factoredBlock wall loads in
@@ -82,7 +82,7 @@ toe-small wall loads fit =
 -- ---- the stem
 
 -- no more rows than so many, and all of them sound; a push is so on any base
-abbrev pub Rows : ℕ → List Component → Type 0
+abbrev Rows : ℕ → List Component → Type 0
 Rows most rows = All (Sound 0 0) rows × (length rows ≤ most)
 
 module _ (wall : Wall) (w : WallWithin wall) where
@@ -113,22 +113,22 @@ module _ (wall : Wall) (loads : List Load) (fit : Fit wall loads) where
   within = wall-within wall (fit .wall-fits)
 
   -- the rows of its table: five pushes and two for each load; and its columns
-  pub stem-rows : Rows 21 (stemTable wall loads)
-  unfolding stemTable pushRows saturatedHeight wallHeight
+  stem-rows : Rows 21 (stemTable wall loads)
+  unfolding stemTable pushRows
   stem-rows =
       let K = restCoefficient wall in
       let h = stemHeight wall in
       let hw = saturatedHeight wall in
-      let behind = pushes-sound 0 0 within K h hw (within .rest .1) (omega (arith, within .stem-height)) (omega (arith, within .water)) in
+      let behind = pushes-sound 0 0 within K h hw (within .rest .1) (stem-face within .0) (stem-face within .1) in
       let under = stem-loads-sound wall within loads (fit .loads-fit) in
       (all-joined (Sound 0 0) (pushRows wall K h hw) (stemLoadTable wall loads) behind (under .0), omega (arith, fit .few))
 
-  pub stem-column : (j : ℕ) → Moderate (columnSum tenths j (stemTable wall loads))
+  stem-column : (j : ℕ) → Moderate (columnSum tenths j (stemTable wall loads))
   stem-column =
       let rows = row-at 0 0 (stemTable wall loads) (stem-rows .0) in
       column-moderate (stemTable wall loads) rows (omega (arith, stem-rows .1)) tenths (each _ (omega (arith, le→leb)))
 
-  pub stem-small : SmallMember (stem wall loads)
+  stem-small : SmallMember (stem wall loads)
   unfolding stem stemAction
   stem-small =
       let part : (j : ℕ) → Small (aboveZero (columnSum tenths j (stemTable wall loads))) = λ j. above-less _ (lit< tt) (stem-column j .1) in
@@ -147,7 +147,7 @@ propping-small wall loads fit =
     case (isPropped wall) _ _ Small (λ t. above-less _ (lit< tt) (sub-<ℤ friction (sub-<ℤ passive-force H))) (λ t. omega arith)
 
 -- the pressures that the service block reports
-pub service-most : (wall : Wall) (loads : List Load) → WithinPeak serviceScale (serviceBlock wall loads)
+service-most : (wall : Wall) (loads : List Load) → WithinPeak serviceScale (serviceBlock wall loads)
 unfolding serviceBlock blockUnder
 service-most wall loads = given-most serviceScale _
 

@@ -8,7 +8,8 @@ use lib.Dec.{T, leb, leb→le}
 use lib.IntN.{ℤ, pos, _+ℤ_, _*ℤ_}
 use lib.Signed.{_≤ℤ_, _<ℤ_, ≤ℤ-refl, leZ-yes}
 use Rattle.whole.specs.Parts.{aboveZero}
-use Rattle.whole.proofs.Integer.{case, itself, diff-mul, above-diff, above-most, above-sub, lt-parts, pos-≤ℤ, pos-<ℤ, *ℤ-nonneg, Whole, whole, is-whole, Above, above, is-above}
+use Rattle.whole.proofs.Integer.{itself, diff-mul, above-diff, above-most, above-sub, lt-parts, pos-≤ℤ, pos-<ℤ, *ℤ-nonneg, Whole, whole, is-whole, Above, above, is-above}
+use Rattle.whole.proofs.Lists.{case}
 use Rattle.whole.proofs.Rounded.{up-enough, up-least}
 use Rattle.rules.specs.declared.Fraction.{Fraction}
 use Rattle.rules.specs.declared.Kind.{Kind}
@@ -17,7 +18,7 @@ use Rattle.rules.specs.declared.Block.{Block}
 use Rattle.rules.specs.JobFile.{Wall, Load, baseLength}
 use Rattle.rules.specs.Bearing.{kindOf, noBlock, ofKind, blockOf, factoredScale, reported, peak, greatestPeak, given, blockUnder, factoredBlock, isGiven}
 use Rattle.rules.specs.ToeAndStem.{scaled, onLine, pressureBy}
-use Rattle.rules.proofs.Accepted.{wall-within, base-length}
+use Rattle.rules.proofs.Accepted.{wall-within, longest, base-length}
 use Rattle.rules.proofs.Examined.{Fit}
 use Rattle.rules.proofs.Sizes.{heaviestFactored, factored-sized}
 use Rattle.rules.proofs.Carries.{Bears, given-bears}
@@ -26,12 +27,12 @@ use Rattle.rules.proofs.Carries.{Bears, given-bears}
 pub record Reaches (contact : Fraction) : Type 0 where
   pub over : pos 0 ≤ℤ contact .over
   pub under : pos 0 ≤ℤ contact .under
-  pub over-most : aboveZero (contact .over) ≤ 2070000000000
-  pub under-most : aboveZero (contact .under) ≤ 180000000
+  pub over-most : aboveZero (contact .over) ≤ 2 * heaviestFactored * longest
+  pub under-most : aboveZero (contact .under) ≤ 2 * heaviestFactored
 
 -- a block on a base of length l whose pressure at a point can be worked
 pub record Pressable (l : ℕ) (b : Block) : Type 0 where
-  pub long : l ≤ 11500
+  pub long : l ≤ longest
   pub toe : pos 0 ≤ℤ b .toe .over
   pub heel : pos 0 ≤ℤ b .heel .over
   pub toe-limit : factoredScale * aboveZero (b .toe .over) ≤ greatestPeak * aboveZero (b .toe .under)
@@ -61,19 +62,19 @@ limit p some h =
     le-trans (up-enough _ under) (mul-le-mul-right (aboveZero (p .under)) h)
 
 -- a contact that is within the base
-reaches : {l : ℕ} {p q : ℤ} → l ≤ 11500 → Above p → Above q → p ≤ℤ (pos l *ℤ q) → aboveZero q ≤ 180000000 → Reaches (record { over = p; under = q })
+reaches : {l : ℕ} {p q : ℤ} → l ≤ longest → Above p → Above q → p ≤ℤ (pos l *ℤ q) → aboveZero q ≤ 2 * heaviestFactored → Reaches (record { over = p; under = q })
 reaches long (above p hp) (above q hq) short most =
     let least : (n : ℕ) → pos 0 ≤ℤ pos n = λ n. pos-≤ℤ .1 (omega arith) in
     record { over = least p; under = least q; over-most = omega (arith, mul-le-mul long most, pos-≤ℤ .0 short); under-most = most }
 
-module _ (R M6 : ℤ) (l : ℕ) (light : R <ℤ pos heaviestFactored) (long : l ≤ 11500) where
-  -- a block that bears, where it is given, and reports no more than the greatest peak, is one
+module _ (R M6 : ℤ) (l : ℕ) (light : R <ℤ pos heaviestFactored) (long : l ≤ longest) where
+  -- a block is Pressable where it reports no more than the greatest peak and, if it is given, bears R and M6
   abbrev Given : Block → Type 0
   Given b = WithinPeak factoredScale b → (T (isGiven b) → Bears R M6 (pos l) b) → Pressable l b
 
-  -- so is one that is given, by what its figures stand over
+  -- a block that bears R and M6 is Pressable: it takes only that its ends are over l^2 where it is full, and its contact over no more than 2R can be
   bearing : (b : Block) → (b .kind ≡ Full → (b .toe .under ≡ pos (l * l)) × (b .heel .under ≡ pos (l * l)))
-      → aboveZero (b .contact .under) ≤ 180000000 → WithinPeak factoredScale b → Bears R M6 (pos l) b → Pressable l b
+      → aboveZero (b .contact .under) ≤ 2 * heaviestFactored → WithinPeak factoredScale b → Bears R M6 (pos l) b → Pressable l b
   bearing b even under most bears =
       let proper = bears .straight .proper in
       record {
@@ -87,10 +88,10 @@ module _ (R M6 : ℤ) (l : ℕ) (light : R <ℤ pos heaviestFactored) (long : l 
       }
 
   -- the contact of a triangle stands over 2R
-  double : aboveZero (pos 2 *ℤ R) ≤ 180000000
+  double : aboveZero (pos 2 *ℤ R) ≤ 2 * heaviestFactored
   double = omega (arith, above-diff _ (diff-mul (pos 2) R (itself (pos 2)) (itself R)), above-most R light)
 
-  -- and so is none
+  -- where there is no block, its zeros are Pressable
   none : Pressable l noBlock
   none =
       let zero = ≤ℤ-refl (pos 0) in
@@ -104,7 +105,7 @@ module _ (R M6 : ℤ) (l : ℕ) (light : R <ℤ pos heaviestFactored) (long : l 
         contact = record { over = zero; under = leZ-yes tt; over-most = omega arith; under-most = omega arith };
       }
 
-  -- the one of each kind, and so the one that R and M6 make
+  -- the block of each kind is Pressable, and so is the one that R and M6 make
   of-kind : (k : Kind) → Given (ofKind k R M6 (pos l))
   unfolding ofKind
   of-kind Full most bears = bearing _ (λ e. (refl, refl)) (omega arith) most (bears tt)
@@ -116,7 +117,7 @@ module _ (R M6 : ℤ) (l : ℕ) (light : R <ℤ pos heaviestFactored) (long : l 
   unfolding given blockOf
   pressable = case (leb (peak factoredScale (blockOf R M6 (pos l))) greatestPeak) _ _ Given (λ t. of-kind (kindOf R M6 (pos l))) (λ t most bears. none)
 
--- the factored block of an accepted wall is one, given or not
+-- the factored block of an accepted wall is Pressable, given or not
 pub factored-pressable : (wall : Wall) (loads : List Load) → Fit wall loads → Pressable (baseLength wall) (factoredBlock wall loads)
 unfolding factoredBlock blockUnder
 factored-pressable wall loads fit =
@@ -127,7 +128,7 @@ factored-pressable wall loads fit =
 
 -- ---- at a point
 
--- what such a block reports
+-- a Pressable block reports no more than the greatest peak
 pub reported-most : {l : ℕ} {b : Block} → Pressable l b → WithinPeak factoredScale b
 unfolding reported
 reported-most p = (up-least _ (p .toe-limit), up-least _ (p .heel-limit))

@@ -122,6 +122,11 @@ pushes-sound l heavy w K h hw k high wet =
     let pushes = pushed w K h hw k high wet in
     (push refl (omega arith), (push refl (omega arith), (push refl (omega arith), (push refl (omega arith), (push refl (omega arith), tt)))))
 
+-- the stem's face is no higher than a wall's, and the water stands no higher
+pub stem-face : {wall : Wall} → WallWithin wall → (stemHeight wall ≤ 9500) × (saturatedHeight wall ≤ stemHeight wall)
+unfolding saturatedHeight wallHeight
+stem-face w = omega arith
+
 -- one part of every load
 part-sound : {wall : Wall} {heavy : ℕ} (weigh press : Sort) (part : Load → ℕ) → WallWithin wall → Lies greatestLoad 1200001 heavy → balances weigh ≡ pos 1
     → balances press ≡ negsuc 0 → ((load : Load) → LoadWithin wall load → part load ≤ greatestLoad) → (loads : List Load) → AllFit wall loads

@@ -239,9 +239,6 @@ slidingOf wall loads = slidingUnder wall (lastingWeight wall loads) (service wal
 abbrev pub friction : Wall → List Load → ℕ
 friction wall loads = slidingOf wall loads .friction
 
-abbrev pub slides : Wall → List Load → Bool
-slides wall loads = slidingOf wall loads .slides
-
 abbrev pub proppingForce : Wall → List Load → ℕ
 proppingForce wall loads = slidingOf wall loads .propping
 

@@ -5,7 +5,7 @@ use Prim.Native.String.{String, [] as empty, _∷_ as _then_}
 use mathlib.Core.Path.{_≡_}
 use mathlib.Core.Bool.{Bool, true, false, not, _||_, cond}
 use mathlib.Core.List.{List, [], _∷_, _++_, map}
-use lib.Dec.{T, ltb, eqb}
+use lib.Dec.{ltb, eqb}
 use lib.ListN.{length, getD, drop, replicate}
 use lib.IntN.{ℤ, pos, negsuc}
 use lib.Signed.{ltZ}
@@ -41,10 +41,6 @@ failsBy Sheared wall w = w .toe .sheared || w .stem .sheared
 
 abbrev pub fails : Check → Wall → List Load → Bool
 fails check wall loads = failsBy check wall (workedWall wall loads)
-
--- the fact that a wall fails one
-abbrev pub Failure : Check → Wall → List Load → Type 0
-Failure check wall loads = T (fails check wall loads)
 
 abbrev pub bit : Check → ℕ
 bit Slides = 1

@@ -13,6 +13,7 @@ use Rattle.rules.specs.declared.Kind.the-variants.{Full, FromToe, FromHe
 use Rattle.rules.specs.declared.Block.{Block}
 use Rattle.rules.specs.declared.Section.{Section}
 use Rattle.rules.specs.declared.Action.{Action}
+use Rattle.rules.specs.declared.Steel.{Steel}
 use Rattle.rules.specs.declared.Member.{Member}
 use Rattle.rules.specs.JobFile.{Wall, Load, stemHeight, stemThickness, toeLength, baseThickness, baseDensity, restCoefficient, concreteStrength, steelStrength, leastSteel, toeCover, toeBar, toeSpacing, stemCover, stemBar, stemSpacing, toeStress, stemStress, baseLength, bars, isDown, position, deadLoad, liveLoad}
 use Rattle.rules.specs.Answered.{fits}
@@ -21,7 +22,7 @@ use Rattle.rules.specs.Bearing.{factoredScale, reported, factoredBlock, 
 
 -- ---- the factored pressure at a point, rounded up. Distances are given twice, so that half a millimetre is exact.
 
--- a reported peak scaled by the distance into contact from its zero end, at a point so far from its other end; 0 outside
+-- a triangle: what its reported peak has fallen to at a point so far from the peak's own end; 0 where the contact has ended
 unfoldable pub scaled : ℕ → Fraction → ℕ → ℕ
 scaled peak contact twiceAway =
     roundedUp (peak * aboveZero (pos 2 *ℤ contact .over -ℤ contact .under *ℤ pos twiceAway)) (aboveZero (pos 2 *ℤ contact .over))
@@ -45,7 +46,7 @@ pressureAt wall b twice = pressureBy (b .kind) b (baseLength wall) twice
 -- ---- the toe, over a factored block
 
 -- 2a: twice the distance of the stem's middle from the toe
-unfoldable pub twiceArm : Wall → ℕ
+abbrev pub twiceArm : Wall → ℕ
 twiceArm wall = 2 * toeLength wall + stemThickness wall
 
 -- there is a toe, and a block under it
@@ -73,7 +74,7 @@ momentOfBearing wall b =
 unfoldable pub momentOfWeight : Wall → ℕ
 momentOfWeight wall = roundedDown (14 * baseDensity wall * baseThickness wall * squared (twiceArm wall)) (4 * 2 * 10 * perVolume)
 
--- a negative difference counts as 0, which is what a difference of whole numbers is here
+-- bearing less weight; a difference of whole numbers is 0 where it would be negative
 unfoldable pub toeAction : Wall → Block → Action
 toeAction wall b = record { shear = shearOfBearing wall b - shearOfWeight wall; moment = momentOfBearing wall b - momentOfWeight wall }
 
@@ -92,6 +93,7 @@ unfoldable pub stemLoadTable : Wall → List Load → List Component
 stemLoadTable wall [] = []
 stemLoadTable wall (load ∷ rest) = stemLoadRows wall load ++ stemLoadTable wall rest
 
+-- the wall's kind isn't read: a prop at the base leaves the stem as it is
 unfoldable pub stemTable : Wall → List Load → List Component
 stemTable wall loads = pushRows wall (restCoefficient wall) (stemHeight wall) (saturatedHeight wall) ++ stemLoadTable wall loads
 
@@ -119,10 +121,10 @@ sectionOf wall thickness cover bar spacing stress =
       least = leastSteel wall;
     }
 
-unfoldable pub toeSection : Wall → Section
+abbrev pub toeSection : Wall → Section
 toeSection wall = sectionOf wall (baseThickness wall) (toeCover wall) (toeBar wall) (toeSpacing wall) (toeStress wall)
 
-unfoldable pub stemSection : Wall → Section
+abbrev pub stemSection : Wall → Section
 stemSection wall = sectionOf wall (stemThickness wall) (stemCover wall) (stemBar wall) (stemSpacing wall) (stemStress wall)
 
 -- D: twice the depth
@@ -193,9 +195,11 @@ shearFails s shear =
 
 -- ---- a member: what acts on its section, and what the section makes of it
 
+abbrev pub steelUnder : Section → ℕ → Steel
+steelUnder s M = record { required = requiredArea s M; fails = steelFails s M }
+
 unfoldable pub memberUnder : Section → Action → Member
-memberUnder s a =
-    record { action = a; steel = record { required = requiredArea s (a .moment); fails = steelFails s (a .moment) }; sheared = shearFails s (a .shear) }
+memberUnder s a = record { action = a; steel = steelUnder s (a .moment); sheared = shearFails s (a .shear) }
 
 abbrev pub noAction : Action
 noAction = record { shear = 0; moment = 0 }
@@ -213,7 +217,7 @@ toe wall loads = toeUnder wall (factoredBlock wall loads)
 unfoldable pub stem : Wall → List Load → Member
 stem wall loads = memberUnder (stemSection wall) (stemAction wall loads)
 
--- ---- what is answered of any wall with its loads, and of any section
+-- ---- what is answered of any wall with its loads, and of any section: of those that document 01 has no rule for, too
 
 -- a refused wall has no figure
 unfoldable pub stemActionOf : Wall → List Load → Action
@@ -224,8 +228,8 @@ abbrev pub greatestSection : Section
 greatestSection =
     record { thickness = 1500; cover = 75; bar = 40; spacing = 500; stress = 5000; concrete = 60; steel = 500; least = 100 }
 
-unfoldable pub isWorkable : Section → Bool
-isWorkable s =
+unfoldable pub isSmall : Section → Bool
+isSmall s =
     let most = greatestSection in
     leb (s .thickness) (most .thickness)
     && leb (s .cover) (most .cover)
@@ -236,7 +240,11 @@ isWorkable s =
     && leb (s .steel) (most .steel)
     && leb (s .least) (most .least)
 
--- a section beyond that isn't worked, and passes neither check
+-- it has steel of some strength, and depth enough for a lever arm
+unfoldable pub isWorkable : Section → Bool
+isWorkable s = isSmall s && leb 1 (s .steel) && leb 2 (twiceDepth s)
+
+-- any other section isn't worked, and passes neither check
 abbrev pub unworked : Action → Member
 unworked a = record { action = a; steel = record { required = 0; fails = true }; sheared = true }
 

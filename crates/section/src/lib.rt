@@ -8,7 +8,7 @@ use rules::Member;
 use rules::Section;
 use rules::Steel;
 ghost use mathlib.Core.Path.{_≡_};
-ghost use Rattle.rules.specs.ToeAndStem.{isWorkable, memberOf};
+ghost use Rattle.rules.specs.ToeAndStem.{isSmall, isWorkable, memberOf};
 
 // The greatest that each number of a section is in any wall.
 const GREATEST: Section = Section {
@@ -22,8 +22,8 @@ const GREATEST: Section = Section {
     least: 100,
 };
 
-fn is_workable(section: Section) -> bool
-    ensures { λ r. ⌜ r ≡ isWorkable section ⌝ }
+fn is_small(section: Section) -> bool
+    ensures { λ r. ⌜ r ≡ isSmall section ⌝ }
 {
     (section.thickness <= GREATEST.thickness)
         & (section.cover <= GREATEST.cover)
@@ -35,8 +35,17 @@ fn is_workable(section: Section) -> bool
         & (section.least <= GREATEST.least)
 }
 
-// A toe or a stem of a section under an action: its steel, and its verdict in shear. A section beyond what a wall can have isn't worked, and passes
-// neither check.
+// Does the section have steel of some strength, and depth enough for a lever arm?
+fn is_workable(section: Section) -> bool
+    ensures { λ r. ⌜ r ≡ isWorkable section ⌝ }
+{
+    if !is_small(section) {
+        return false;
+    }
+    (1 <= section.steel) & (2 <= steel::twice_depth(section))
+}
+
+// What a section makes of the action on it: the steel that it requires, and its verdicts. One that can't be worked passes neither check.
 pub fn member(section: Section, action: Action) -> Member
     ensures { λ r. ⌜ r ≡ memberOf section action ⌝ }
 {

@@ -5,10 +5,8 @@ use rules::Steel;
 ghost use mathlib.Core.Path.{_≡_};
 ghost use Prim.Native.Nat.{_≤_};
 ghost use Rattle.whole.specs.Rounding.{roundedUp, roundedDown};
-ghost use Rattle.rules.specs.ToeAndStem.{greatestSection, twiceDepth, needsCompression, bears, leverArm, neededArea, leastArea, barArea, providedArea};
-ghost use Rattle.rules.proofs.Sections.{Bounded};
-ghost use Rattle.section.specs.Within.{Within, deepest, greatestMoment};
-ghost use Rattle.section.specs.Steels.{steelUnder};
+ghost use Rattle.rules.specs.ToeAndStem.{greatestSection, twiceDepth, needsCompression, bears, leverArm, neededArea, leastArea, barArea, providedArea, steelUnder};
+ghost use Rattle.rules.proofs.Sections.{Bounded, deepest, Within, greatestMoment};
 
 // The width that steel is worked for, in mm.
 const METRE: u64 = 1000;

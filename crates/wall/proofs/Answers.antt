@@ -14,13 +14,12 @@ use Rattle.rules.specs.declared.Section.{Section}
 use Rattle.rules.specs.JobFile.{Wall, Load, toeLength, baseLength}
 use Rattle.rules.specs.Answered.{isWorked, examined, fits}
 use Rattle.rules.specs.Forces.{noForces, workedForces, forcesOf}
-use Rattle.rules.specs.Bearing.{isGiven, pressedBy, workedBearing, bearingOf}
+use Rattle.rules.specs.Bearing.{factoredScale, isGiven, pressedBy, workedBearing, bearingOf}
 use Rattle.rules.specs.ToeAndStem.{toeWorked, toeAction, stemAction, toeSection, memberUnder, noMember, toeUnder, toe, stemActionOf, isWorkable, memberOf}
 use Rattle.rules.specs.SheetLine.{lineNumbers, line, lineOf}
 use Rattle.rules.proofs.Carries.{worked-blocks}
 use Rattle.rules.proofs.Examined.{fit}
 use Rattle.rules.proofs.Pressures.{Pressable, factored-pressable}
-use Rattle.wall.specs.Reported.{Reported}
 
 -- a workable section is worked
 pub member-worked : (s : Section) (a : Action) → T (isWorkable s) → memberOf s a ≡ memberUnder s a
@@ -51,9 +50,10 @@ module _ (wall : Wall) (loads : List Load) (worked : T (fits wall loads)) where
   borne = worked-blocks wall loads (is-true (fits wall loads) worked)
 
   -- its toe can be worked over its factored block
-  pub bears-toe : Reported (bearingOf wall loads .factored) × Pressable (baseLength wall) (bearingOf wall loads .factored .block)
+  pub bears-toe : let factored = bearingOf wall loads .factored in
+      (factored ≡ pressedBy factoredScale (factored .block)) × Pressable (baseLength wall) (factored .block)
   unfolding workedBearing pressedBy
-  bears-toe = rw borne (record { toe = refl; heel = refl }, factored-pressable wall loads (fit wall loads worked))
+  bears-toe = rw borne (refl, factored-pressable wall loads (fit wall loads worked))
 
   -- and is then the toe of the rules
   pub toe-is : toeUnder wall (bearingOf wall loads .factored .block) ≡ toe wall loads

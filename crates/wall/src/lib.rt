@@ -19,9 +19,9 @@ ghost use Rattle.rules.specs.Bearing.{bearingOf};
 ghost use Rattle.rules.specs.SheetLine.{workedWall, numbersBy, lineOf};
 ghost use Rattle.rules.proofs.Sizes.{Small};
 
-pub type Numbers = [i64; LINE];
+type Numbers = [i64; LINE];
 
-// A wall that fits with its loads, from what bears it: its toe and its stem besides.
+// A wall that fits with its loads: to what bears it come its toe and its stem.
 fn worked(wall: Wall, loads: Loads, borne: Borne) -> WorkedWall
     requires { ⌜ T (fits wall loads) × (borne ≡ bearingOf wall loads) ⌝ }
     ensures { λ r. ⌜ r ≡ workedWall wall loads ⌝ }
@@ -62,8 +62,8 @@ fn numbers_of(number: u32, wall: Wall, worked: WorkedWall) -> Numbers
     ]
 }
 
-// The line of a wall with its number and its loads, or the refusal that a file of this one wall and these loads would get. An absent load is a
-// row of zeros.
+// The line of a wall under its loads, with the number that it is given. An absent load is a row of zeros. Where the wall or a load is out of
+// range the answer is the refusal that a file of just these would get, so that the wall is number 1 there, and every number of the line is 0.
 pub fn line(number: u32, wall: Wall, loads: Loads) -> WallLine
     ensures { λ r. ⌜ r ≡ lineOf number wall loads ⌝ }
 {

@@ -12,9 +12,9 @@ ghost use mathlib.Core.Path.{_≡_};
 ghost use lib.Dec.{T};
 ghost use Rattle.rules.specs.JobFile.{wallFits, baseLength};
 ghost use Rattle.rules.specs.Answered.{fits};
+ghost use Rattle.rules.specs.Bearing.{factoredScale, pressedBy};
 ghost use Rattle.rules.specs.ToeAndStem.{noMember, toeUnder, stem};
 ghost use Rattle.rules.proofs.Pressures.{Pressable};
-ghost use Rattle.wall.specs.Reported.{Reported};
 
 fn no_member() -> Member
     ensures { λ r. ⌜ r ≡ noMember ⌝ }
@@ -34,7 +34,7 @@ fn no_member() -> Member
 
 // The toe over a factored block; with no toe or no block it has no figure, and no check is made of it.
 pub fn toe_over(wall: Wall, factored: Pressed) -> Member
-    requires { ⌜ T (wallFits wall) × Reported factored × Pressable (baseLength wall) (factored .block) ⌝ }
+    requires { ⌜ T (wallFits wall) × (factored ≡ pressedBy factoredScale (factored .block)) × Pressable (baseLength wall) (factored .block) ⌝ }
     ensures { λ r. ⌜ r ≡ toeUnder wall (factored .block) ⌝ }
 {
     if record::field(wall, TOE_LENGTH) == 0 {

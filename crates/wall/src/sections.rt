@@ -15,25 +15,26 @@ use record::TOE_STRESS;
 use record::Wall;
 use rules::Section;
 ghost use mathlib.Core.Path.{_≡_};
+ghost use lib.ListN.{getD};
 ghost use Rattle.rules.specs.ToeAndStem.{sectionOf, toeSection, stemSection};
 
-// A section has its own thickness, bars and shear stress, and the wall's materials.
+// A section has its own thickness, bars and shear stress, each given by the field that it is, and the wall's materials.
 fn section_of(
     wall: Wall,
-    thickness: u64,
-    cover: u64,
-    bar: u64,
-    spacing: u64,
-    stress: u64,
+    thickness: usize,
+    cover: usize,
+    bar: usize,
+    spacing: usize,
+    stress: usize,
 ) -> Section
-    ensures { λ r. ⌜ r ≡ sectionOf wall thickness cover bar spacing stress ⌝ }
+    ensures { λ r. ⌜ r ≡ sectionOf wall (getD wall thickness 0) (getD wall cover 0) (getD wall bar 0) (getD wall spacing 0) (getD wall stress 0) ⌝ }
 {
     Section {
-        thickness: thickness,
-        cover: cover,
-        bar: bar,
-        spacing: spacing,
-        stress: stress,
+        thickness: record::field(wall, thickness),
+        cover: record::field(wall, cover),
+        bar: record::field(wall, bar),
+        spacing: record::field(wall, spacing),
+        stress: record::field(wall, stress),
         concrete: record::field(wall, CONCRETE_STRENGTH),
         steel: record::field(wall, STEEL_STRENGTH),
         least: record::field(wall, LEAST_STEEL),
@@ -45,11 +46,11 @@ pub fn toe_section(wall: Wall) -> Section
 {
     section_of(
         wall,
-        record::field(wall, BASE_THICKNESS),
-        record::field(wall, TOE_COVER),
-        record::field(wall, TOE_BAR),
-        record::field(wall, TOE_SPACING),
-        record::field(wall, TOE_STRESS),
+        BASE_THICKNESS,
+        TOE_COVER,
+        TOE_BAR,
+        TOE_SPACING,
+        TOE_STRESS,
     )
 }
 
@@ -58,10 +59,10 @@ pub fn stem_section(wall: Wall) -> Section
 {
     section_of(
         wall,
-        record::field(wall, STEM_THICKNESS),
-        record::field(wall, STEM_COVER),
-        record::field(wall, STEM_BAR),
-        record::field(wall, STEM_SPACING),
-        record::field(wall, STEM_STRESS),
+        STEM_THICKNESS,
+        STEM_COVER,
+        STEM_BAR,
+        STEM_SPACING,
+        STEM_STRESS,
     )
 }

@@ -1,5 +1,6 @@
 // Document 01, "Toe and stem": what acts on the toe, the bearing below it less its own weight.
 use crate::pressure;
+use components::units::PER_VOLUME;
 use record::BASE_DENSITY;
 use record::BASE_THICKNESS;
 use record::STEM_THICKNESS;
@@ -8,29 +9,33 @@ use record::Wall;
 use rules::Action;
 use rules::Pressed;
 ghost use mathlib.Core.Path.{_≡_};
-ghost use Prim.Native.Nat.{_+_, _*_, _≤_};
+ghost use Prim.Native.Nat.{_*_, _≤_};
 ghost use lib.Dec.{T};
 ghost use Rattle.whole.specs.Rounding.{roundedUp, roundedDown};
-ghost use Rattle.rules.specs.JobFile.{stemThickness, toeLength, baseThickness, baseDensity, wallFits, baseLength};
+ghost use Rattle.rules.specs.JobFile.{baseThickness, baseDensity, wallFits, baseLength};
 ghost use Rattle.rules.specs.Forces.{squared};
+ghost use Rattle.rules.specs.Bearing.{factoredScale, pressedBy};
 ghost use Rattle.rules.specs.ToeAndStem.{twiceArm, shearOfWeight, momentOfWeight, toeAction};
+ghost use Rattle.rules.proofs.Accepted.{longest};
 ghost use Rattle.rules.proofs.Pressures.{Pressable};
-ghost use Rattle.wall.specs.Reported.{Reported};
 
-// mm x (N/m2): 1000 to the newton. The shear takes half of the product.
-const PER_SHEAR: u64 = 2000;
+// mm x (N/m2): 1000 to the newton.
+const PER_PRESSURE: u64 = 1000;
 
-// A sixth of the product, and a quarter for (2a)^2.
-const PER_MOMENT: u64 = 24000;
+// The shear takes half of the product.
+const PER_SHEAR: u64 = 2 * PER_PRESSURE;
+
+// The moment takes a sixth of it, and a quarter for (2a)^2.
+const PER_MOMENT: u64 = 4 * 6 * PER_PRESSURE;
 
 // 1.4, in tenths.
 const FACTOR: u64 = 14;
 
-// mm x mm x (10 N/m3): 100000 to the newton, in tenths.
-const PER_WEIGHT: u64 = 1000000;
+// A weight in tenths.
+const PER_WEIGHT: u64 = 10 * PER_VOLUME;
 
 // Half of it, and a quarter for (2a)^2.
-const PER_WEIGHT_MOMENT: u64 = 8000000;
+const PER_WEIGHT_MOMENT: u64 = 4 * 2 * 10 * PER_VOLUME;
 
 // Bearing is rounded up, and the weight that it is relieved by down.
 fn bearing(product: u64, per: u64) -> u64
@@ -47,7 +52,7 @@ fn relief(product: u64, per: u64) -> u64
 
 // 2a: twice the distance of the stem's middle from the toe.
 fn twice_arm(wall: Wall) -> u64
-    ensures { λ r. ⌜ r ≡ 2 * toeLength wall + stemThickness wall ⌝ }
+    ensures { λ r. ⌜ r ≡ twiceArm wall ⌝ }
 {
     2 * record::field(wall, TOE_LENGTH) + record::field(wall, STEM_THICKNESS)
 }
@@ -55,7 +60,7 @@ fn twice_arm(wall: Wall) -> u64
 // (2a)^2.
 fn squared_arm(wall: Wall) -> u64
     requires { ⌜ T (wallFits wall) ⌝ }
-    ensures { λ r. ⌜ (r ≡ squared (twiceArm wall)) × (r ≤ squared 11500) ⌝ }
+    ensures { λ r. ⌜ (r ≡ squared (twiceArm wall)) × (r ≤ squared longest) ⌝ }
 {
     let arm = twice_arm(wall);
     arm * arm
@@ -85,7 +90,7 @@ fn moment_of_weight(wall: Wall) -> u64
 
 // The shear where the stem begins, and the moment about the stem's middle.
 pub fn toe_action(wall: Wall, pressed: Pressed) -> Action
-    requires { ⌜ T (wallFits wall) × Reported pressed × Pressable (baseLength wall) (pressed .block) ⌝ }
+    requires { ⌜ T (wallFits wall) × (pressed ≡ pressedBy factoredScale (pressed .block)) × Pressable (baseLength wall) (pressed .block) ⌝ }
     ensures { λ r. ⌜ r ≡ toeAction wall (pressed .block) ⌝ }
 {
     let l = record::base_length(wall);

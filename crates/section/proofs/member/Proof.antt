@@ -3,7 +3,7 @@ use mathlib.Core.Path.{_≡_, sym, _∙_}
 use mathlib.Core.Bool.{true}
 use borrow.Author.Needs.{needs}
 use Rattle.rules.specs.ToeAndStem.{isWorkable, memberUnder, memberOf}
-use Rattle.rules.proofs.Sections.{bounded}
+use Rattle.rules.proofs.Sections.{of-workable}
 use Rattle.section.proofs.member.Statement.{statement}
 use Rattle.section.proofs.member.Tie as tie
 
@@ -14,10 +14,10 @@ is-workable-requires : tie.Need-is-workable-requires
 is-workable-requires c κs = search needs
 
 steel-of-requires : tie.Need-steel-of-requires
-steel-of-requires c κs = bounded _ (rw (passed c) tt)
+steel-of-requires c κs = of-workable (c .before .before .args .section) (rw (passed c) tt) .0
 
 shear-fails-requires : tie.Need-shear-fails-requires
-shear-fails-requires c κs = bounded _ (rw (passed (c .before)) tt)
+shear-fails-requires c κs = of-workable (c .before .before .before .args .section) (rw (passed (c .before)) tt) .0
 
 returns : tie.Need-returns
 unfolding memberUnder memberOf

@@ -1,10 +1,10 @@
 -- `components::stem::table_of_stem` meets its contract. The water above the base's top stands within the stem's height, and the loads on the stem are small.
 use native.Mathlib.Omega.{arith}
 use borrow.Author.Needs.{needs}
-use Rattle.rules.specs.JobFile.{wallHeight}
-use Rattle.rules.specs.Forces.{saturatedHeight, pushRows}
+use Rattle.rules.specs.Forces.{pushRows}
 use Rattle.rules.proofs.Accepted.{wall-within}
 use Rattle.rules.proofs.Examined.{Fit, fit}
+use Rattle.rules.proofs.Sizes.{stem-face}
 use Rattle.components.specs.Tables.{noWeights, stemInPlace}
 use Rattle.components.proofs.InPlace.{loads-small, in-place}
 use Rattle.components.proofs.OnStem.{stem-fit}
@@ -24,10 +24,10 @@ saturated-height-requires : tie.Need-saturated-height-requires
 saturated-height-requires c κs = search needs
 
 push-rows-requires : tie.Need-push-rows-requires
-unfolding saturatedHeight wallHeight
 push-rows-requires c κs =
     let f = fitted (c .before .before .before) in
     let w = wall-within _ (f .wall-fits) in
+    let face = stem-face w in
     (f .wall-fits, record { coefficient = omega arith; height = omega arith; water = omega arith })
 
 loads-on-stem-requires : tie.Need-loads-on-stem-requires

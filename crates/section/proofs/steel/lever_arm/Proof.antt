@@ -6,7 +6,7 @@ use native.Mathlib.Omega.{arith}
 use borrow.Author.Needs.{needs}
 use borrow.Author.Tests.{lt-leb}
 use Rattle.rules.specs.ToeAndStem.{bears, greatest, leverArm}
-use Rattle.section.proofs.Greatest.{passes, fails, skips}
+use Rattle.rules.proofs.Lever.{greatest-here, greatest-below, greatest-from}
 use Rattle.section.proofs.steel.lever_arm.Statement.{statement}
 use Rattle.section.proofs.steel.lever_arm.Tie as tie
 
@@ -26,7 +26,7 @@ mul-z c = search needs
 
 loop-holds : tie.Need-loop-holds Inv-loop μ-loop
 unfolding leverArm
-loop-holds c = (omega arith, skips _ _ _ (omega arith) (too-long _ _ _))
+loop-holds c = (omega arith, greatest-from _ _ _ (omega arith) (too-long _ _ _))
 
 lever-bears-requires : tie.Need-lever-bears-requires Inv-loop μ-loop
 lever-bears-requires c κs = search needs
@@ -34,7 +34,7 @@ lever-bears-requires c κs = search needs
 returns : tie.Need-returns Inv-loop μ-loop
 returns c =
     let d = c .before .before .before in
-    (sym (d .loop .inv .1 ∙ passes _ _ (omega arith) (sym (c .before .lever-bears .ensures) ∙ c .if1 .taken)), d .loop .inv .0)
+    (sym (d .loop .inv .1 ∙ greatest-here _ _ (omega arith) (sym (c .before .lever-bears .ensures) ∙ c .if1 .taken)), d .loop .inv .0)
 
 sub-z : tie.Need-sub-z Inv-loop μ-loop
 sub-z c = omega arith
@@ -45,7 +45,7 @@ loop-less c = omega arith
 loop-again : tie.Need-loop-again Inv-loop μ-loop
 loop-again c =
     let d = c .before .before .before in
-    (omega arith, d .loop .inv .1 ∙ fails _ _ (omega arith) (sym (c .before .lever-bears .ensures) ∙ c .if1 .left))
+    (omega arith, d .loop .inv .1 ∙ greatest-below _ _ (omega arith) (sym (c .before .lever-bears .ensures) ∙ c .if1 .left))
 
 returns-2 : tie.Need-returns-2 Inv-loop μ-loop
 unfolding greatest

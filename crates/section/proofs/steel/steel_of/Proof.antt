@@ -3,7 +3,7 @@ use mathlib.Core.Path.{_≡_, sym, _∙_}
 use native.Mathlib.Omega.{arith}
 use borrow.Author.Needs.{needs}
 use Rattle.rules.specs.ToeAndStem.{twiceDepth, needsCompression, requiredArea, steelFails}
-use Rattle.section.proofs.Bounds.{moment-most}
+use Rattle.rules.proofs.Sections.{moment-most}
 use Rattle.section.proofs.steel.steel_of.Statement.{statement}
 use Rattle.section.proofs.steel.steel_of.Tie as tie
 

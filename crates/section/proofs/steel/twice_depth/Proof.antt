@@ -2,6 +2,7 @@
 use native.Mathlib.Omega.{arith}
 use borrow.Author.Needs.{needs}
 use Rattle.rules.specs.ToeAndStem.{twiceDepth}
+use Rattle.rules.proofs.Sections.{depth-most}
 use Rattle.section.proofs.steel.twice_depth.Statement.{statement}
 use Rattle.section.proofs.steel.twice_depth.Tie as tie
 
@@ -19,7 +20,7 @@ excess-requires-2 c κs = search needs
 
 returns : tie.Need-returns
 unfolding twiceDepth
-returns c = omega arith
+returns c = (omega arith, omega (arith, depth-most (c .before .before .before .before .pre)))
 
 pub twice-depth-spec : {M : Type 1} → statement M
 twice-depth-spec = tie.close (tie.spec mul-excess mul-excess-2 excess-requires excess-requires-2 returns)

@@ -1,14 +1,24 @@
--- `wall::pressure::pressure_at` meets its contract: a case for each kind of block, and in each the same bound.
+-- `wall::pressure::pressure_at` meets its contract: a case for each kind of block, worked in whole numbers, and in each the same bound.
 use mathlib.Core.Path.{_≡_, refl, sym, ap, _∙_}
-use Prim.Native.Nat.{ℕ, _≤_}
+use Prim.Native.Nat.{ℕ, _-_, _*_, _≤_}
 use native.Mathlib.Omega.{arith}
 use borrow.Author.Needs.{needs}
 use Rattle.rules.specs.declared.Kind.{Kind}
 use Rattle.rules.specs.Bearing.{greatestPeak}
 use Rattle.rules.specs.ToeAndStem.{pressureBy}
 use Rattle.rules.proofs.Pressures.{reported-most, pressure-most}
+use Rattle.wall.proofs.Exact.{reports, whole-scaled, scaled-fits, whole-line, line-fits}
 use Rattle.wall.proofs.pressure.pressure_at.Statement.{statement}
 use Rattle.wall.proofs.pressure.pressure_at.Tie as tie
+
+parts-of-requires : tie.Need-parts-of-requires
+parts-of-requires c κs = search needs
+
+parts-of-requires-2 : tie.Need-parts-of-requires-2
+parts-of-requires-2 c κs = search needs
+
+parts-of-requires-3 : tie.Need-parts-of-requires-3
+parts-of-requires-3 c κs = search needs
 
 mul-from-heel : tie.Need-mul-from-heel
 mul-from-heel c = search needs
@@ -19,24 +29,39 @@ sub-from-heel c = search needs
 enum-told : tie.Need-enum-told
 enum-told c = search needs
 
+-- the call, from where the parts are whole numbers
+abbrev start : tie.After-parts-of3 → tie.Start
+start c = c .before .before .before .before
+
 on-line-requires : tie.Need-on-line-requires
-on-line-requires c κs = search needs
+on-line-requires c κs =
+    let whole = c .before .before in
+    let pre = start whole .pre in
+    let fit =
+    rw (← whole .before .parts-of2 .ensures .0, ← whole .before .before .parts-of .ensures .0, ← whole .before .before .parts-of .ensures .1)
+    at (line-fits (pre .1) (c .enum-told .given .1) (pre .2))
+    in
+    (pre .1 .long, pre .2, fit .0, fit .1)
 
 enum-told-2 : tie.Need-enum-told-2
 enum-told-2 c = search needs
 
 scaled-peak-requires : tie.Need-scaled-peak-requires
 scaled-peak-requires c κs =
-    let pre = c .before .before .before .pre in
-    (rw (pre .0 .toe) (reported-most (pre .1) .0), pre .1 .contact, omega arith)
+    let whole = c .before .before in
+    let pre = start whole .pre in
+    rw (reports (pre .0) .0, whole .parts-of3 .ensures .0, whole .parts-of3 .ensures .1)
+    (scaled-fits (reported-most (pre .1) .0) (pre .1 .contact) (omega (arith, pre .1 .long)))
 
 enum-told-3 : tie.Need-enum-told-3
 enum-told-3 c = search needs
 
 scaled-peak-requires-2 : tie.Need-scaled-peak-requires-2
 scaled-peak-requires-2 c κs =
-    let pre = c .before .before .before .pre in
-    (rw (pre .0 .heel) (reported-most (pre .1) .1), pre .1 .contact, omega arith)
+    let whole = c .before .before in
+    let pre = start whole .pre in
+    rw (reports (pre .0) .1, whole .parts-of3 .ensures .0, whole .parts-of3 .ensures .1)
+    (scaled-fits (reported-most (pre .1) .1) (pre .1 .contact) (omega (arith, pre .1 .long)))
 
 enum-told-4 : tie.Need-enum-told-4
 enum-told-4 c = search needs
@@ -51,28 +76,33 @@ bounded c told e = let same = e ∙ ap (by c) (sym told) in (same, rw same (pres
 
 returns : tie.Need-returns
 unfolding pressureBy
-returns c = bounded (c .before .before .before .before) (c .before .enum-told .given .1) (c .on-line .ensures)
+returns c =
+    let call = start (c .before .before .before) in
+    bounded call (c .before .enum-told .given .1) (cc (whole-line (call .args .l) (call .args .twice) (call .pre .1)))
 
 returns-2 : tie.Need-returns-2
 unfolding pressureBy
 returns-2 c =
-    let start = c .before .before .before .before in
-    bounded start (c .before .enum-told2 .given .1) (rw (start .pre .0 .toe) at (c .scaled-peak .ensures))
+    let call = start (c .before .before .before) in
+    bounded call (c .before .enum-told2 .given .1) (cc (reports (call .pre .0) .0, whole-scaled (call .args .pressed .toe) (call .args .twice) (call .pre .1 .contact)))
 
 returns-3 : tie.Need-returns-3
 unfolding pressureBy
 returns-3 c =
-    let start = c .before .before .before .before in
-    bounded start (c .before .enum-told3 .given .1) (rw (start .pre .0 .heel) at (c .scaled-peak2 .ensures))
+    let call = start (c .before .before .before) in
+    bounded call (c .before .enum-told3 .given .1) (cc (reports (call .pre .0) .1, whole-scaled (call .args .pressed .heel) (2 * call .args .l - call .args .twice) (call .pre .1 .contact)))
 
 returns-4 : tie.Need-returns-4
 unfolding pressureBy
-returns-4 c = bounded (c .before .before .before) (c .enum-told4 .given .1) refl
+returns-4 c = bounded (start (c .before .before)) (c .enum-told4 .given .1) refl
 
 pub pressure-at-spec : {M : Type 1} → statement M
 pressure-at-spec =
     tie.close
     (tie.spec
+    parts-of-requires
+    parts-of-requires-2
+    parts-of-requires-3
     mul-from-heel
     sub-from-heel
     enum-told

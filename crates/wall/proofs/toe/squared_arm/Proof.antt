@@ -1,28 +1,24 @@
--- `wall::toe::squared_arm` meets its contract: a toe of 5000 and a stem of 1500 make the greatest arm.
+-- `wall::toe::squared_arm` meets its contract: twice the arm is no longer than the longest base.
 use Prim.Native.Nat.{_≤_}
 use native.Mathlib.Nat.{mul-le-mul}
 use native.Mathlib.Omega.{arith}
 use borrow.Author.Needs.{needs}
 use Rattle.rules.specs.Forces.{squared}
-use Rattle.rules.specs.ToeAndStem.{twiceArm}
-use Rattle.rules.proofs.Accepted.{wall-within}
+use Rattle.rules.proofs.Accepted.{wall-within, longest}
+use Rattle.rules.proofs.Lines.{arm-most}
 use Rattle.wall.proofs.toe.squared_arm.Statement.{statement}
 use Rattle.wall.proofs.toe.squared_arm.Tie as tie
 
 twice-arm-requires : tie.Need-twice-arm-requires
 twice-arm-requires c κs = search needs
 
-square-most : (c : tie.After-twice-arm) → squared (c .twice-arm .result) ≤ squared 11500
-square-most c =
-    let within = wall-within _ (c .before .pre) in
-    let short : c .twice-arm .result ≤ 11500 = omega arith in
-    mul-le-mul short short
+square-most : (c : tie.After-twice-arm) → squared (c .twice-arm .result) ≤ squared longest
+square-most c = let short = arm-most (wall-within _ (c .before .pre)) .0 in rw (c .twice-arm .ensures) (mul-le-mul short short)
 
 mul-result : tie.Need-mul-result
 mul-result c = omega (arith, square-most c)
 
 returns : tie.Need-returns
-unfolding twiceArm
 returns c = (cc, square-most c)
 
 pub squared-arm-spec : {M : Type 1} → statement M

@@ -1,14 +1,16 @@
 -- `wall::toe::toe_action` meets its contract: the toe's end, the stem's front and its middle are on the base, and no pressure there is above the
 -- greatest peak.
+use mathlib.Core.Path.{_≡_}
 use Prim.Native.Nat.{ℕ, _*_, _≤_}
 use native.Mathlib.Omega.{arith}
 use borrow.Author.Needs.{needs}
 use Rattle.whole.proofs.Factors.{two-fit}
 use Rattle.rules.specs.JobFile.{baseLength}
-use Rattle.rules.specs.ToeAndStem.{pressureAt, twiceArm, shearOfBearing, momentOfBearing, toeAction}
+use Rattle.rules.specs.Bearing.{factoredScale, pressedBy}
+use Rattle.rules.specs.ToeAndStem.{pressureAt, shearOfBearing, momentOfBearing, toeAction}
 use Rattle.rules.proofs.Accepted.{wall-within}
+use Rattle.rules.proofs.Lines.{arm-most}
 use Rattle.rules.proofs.Pressures.{Pressable}
-use Rattle.wall.specs.Reported.{Reported}
 use Rattle.wall.proofs.toe.toe_action.Statement.{statement}
 use Rattle.wall.proofs.toe.toe_action.Tie as tie
 
@@ -23,7 +25,8 @@ twice-arm-requires c κs = search needs
 
 -- a point that is on the base
 on-base : (c : tie.After-twice-arm) {twice : ℕ} → twice ≤ 2 * baseLength (c .before .before .before .args .wall)
-    → Reported (c .before .before .before .args .pressed) × Pressable (c .before .before .base-length .result) (c .before .before .before .args .pressed .block)
+    → let pressed = c .before .before .before .args .pressed in
+    (pressed ≡ pressedBy factoredScale (pressed .block)) × Pressable (c .before .before .base-length .result) (pressed .block)
     × (twice ≤ 2 * c .before .before .base-length .result)
 on-base c h = let pre = c .before .before .before .pre in rw (c .before .before .base-length .ensures) (pre .1, pre .2, h)
 
@@ -34,12 +37,10 @@ mul-pressure-at : tie.Need-mul-pressure-at
 mul-pressure-at c = search needs
 
 pressure-at-requires-2 : tie.Need-pressure-at-requires-2
-unfolding baseLength
-pressure-at-requires-2 c κs = on-base (c .before) (omega arith)
+pressure-at-requires-2 c κs = on-base (c .before) (omega (arith, arm-most (wall-within _ (c .before .before .before .before .pre .0))))
 
 pressure-at-requires-3 : tie.Need-pressure-at-requires-3
-unfolding baseLength
-pressure-at-requires-3 c κs = on-base (c .before .before) (omega arith)
+pressure-at-requires-3 c κs = on-base (c .before .before) (omega (arith, arm-most (wall-within _ (c .before .before .before .before .before .pre .0))))
 
 add-bearing : tie.Need-add-bearing
 add-bearing c = search needs
@@ -78,7 +79,7 @@ excess-requires-2 : tie.Need-excess-requires-2
 excess-requires-2 c κs = search needs
 
 returns : tie.Need-returns
-unfolding toeAction shearOfBearing momentOfBearing pressureAt twiceArm
+unfolding toeAction shearOfBearing momentOfBearing pressureAt
 returns c = cc
 
 pub toe-action-spec : {M : Type 1} → statement M

@@ -1,2 +1,0 @@
-pub mod Steels
-pub mod Within
