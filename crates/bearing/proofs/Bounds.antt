@@ -2,6 +2,7 @@
 use Prim.Native.Nat.{ℕ, _*_, _≤_, _<_}
 use native.Mathlib.Nat.{mul-le-mul}
 use native.Mathlib.Omega.{arith}
+use Rattle.rules.proofs.Accepted.{longest}
 use Rattle.rules.proofs.Sizes.{heaviestFactored}
 use Rattle.bearing.specs.Within.{Within}
 
@@ -13,7 +14,7 @@ pub record Bounds (R M6 l : ℕ) : Type 0 where
 pub bounds : {R M6 l : ℕ} → Within R M6 l → Bounds R M6 l
 bounds {R} {M6} {l} w =
     let r : R ≤ heaviestFactored = omega (arith, w .vertical) in
-    let long : l ≤ 11500 = w .length .1 in
+    let long : l ≤ longest = w .length .1 in
     record {
       along = omega (arith, mul-le-mul r long);
       square = omega (arith, mul-le-mul r r);

@@ -15,13 +15,13 @@ use Rattle.rules.specs.JobFile.{Wall, Load, baseLength}
 use Rattle.rules.specs.Answered.{examined, fits}
 use Rattle.rules.specs.Forces.{noTotals, noForces, workedForces, forcesOf}
 use Rattle.rules.specs.Bearing.{serviceScale, factoredScale}
-use Rattle.rules.proofs.Accepted.{wall-within, base-length}
+use Rattle.rules.proofs.Accepted.{wall-within, longest, base-length}
 use Rattle.rules.proofs.Examined.{fit}
 use Rattle.rules.proofs.Sizes.{Sized, heaviest, heaviestFactored, service-sized, factored-sized}
 use Rattle.bearing.specs.Within.{Scaled, Workable}
 
 -- small totals are, at a scale that suits them
-module _ (scale most l : ℕ) (small : scale ≤ 1000) (light : most ≤ heaviestFactored) (square : scale * (4 * most * most) < 2 ^ 63) (long : (0 < l) × (l ≤ 11500)) where
+module _ (scale most l : ℕ) (small : scale ≤ 1000) (light : most ≤ heaviestFactored) (square : scale * (4 * most * most) < 2 ^ 63) (long : (0 < l) × (l ≤ longest)) where
   scaled : (R M6 : ℤ) → pos 0 <ℤ R → R <ℤ pos most → M6 <ℤ (pos 6 *ℤ R *ℤ pos l) → 0 < aboveZero M6 → Scaled scale (aboveZero R) (aboveZero M6) l
   scaled (pos r) (pos m) some less on up =
       let under : r ≤ most = omega (arith, pos-<ℤ .0 less) in
@@ -47,7 +47,7 @@ module _ (wall : Wall) (loads : List Load) where
   unfolding forcesOf
   answered P f g = case (fits wall loads) _ _ P f (λ t. g)
 
-  long : T (fits wall loads) → (0 < baseLength wall) × (baseLength wall ≤ 11500)
+  long : T (fits wall loads) → (0 < baseLength wall) × (baseLength wall ≤ longest)
   long t = omega (arith, base-length (wall-within wall (fit wall loads t .wall-fits)))
 
   -- the totals in service, answered of any wall with its loads

@@ -5,12 +5,13 @@ use lib.Signed.{_≤ℤ_}
 use Rattle.whole.specs.Parts.{aboveZero}
 use Rattle.rules.specs.declared.Totals.{Totals}
 use Rattle.rules.specs.declared.Block.{Block}
+use Rattle.rules.proofs.Accepted.{longest}
 use Rattle.rules.proofs.Sizes.{heaviestFactored}
 
 -- R, M6 and l, of an accepted wall in service or factored
 pub record Within (R M6 l : ℕ) : Type 0 where
   pub vertical : (0 < R) × (R < heaviestFactored)
-  pub length : (0 < l) × (l ≤ 11500)
+  pub length : (0 < l) × (l ≤ longest)
   pub on-base : M6 < 6 * R * l
 
 -- and a scale to report pressures at

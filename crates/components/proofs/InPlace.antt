@@ -12,7 +12,7 @@ use Rattle.whole.proofs.Lists.{all-at, of-either}
 use Rattle.rules.specs.JobFile.{Wall, Load, mostLoadsOnWall, baseLength, wallHeight, isDown, position, reach}
 use Rattle.rules.specs.Answered.{fits}
 use Rattle.rules.specs.Forces.{Component, loadRow, deadRow, liveRow, loadTable}
-use Rattle.rules.proofs.Accepted.{WallWithin, wall-within, base-length, wall-height, LoadWithin, load-within}
+use Rattle.rules.proofs.Accepted.{WallWithin, wall-within, longest, base-length, wall-height, LoadWithin, load-within}
 use Rattle.rules.proofs.Examined.{Suits, Fit, absent-fits}
 use Rattle.components.specs.declared.Case.{Case}
 use Rattle.components.specs.Faces.{rowsOf}
@@ -23,11 +23,11 @@ use Rattle.whole.proofs.Indexed.{past, joined-length, at-first, at-second, at-t
 
 -- a load that fits its wall is small
 module _ {wall : Wall} (w : WallWithin wall) (load : Load) (l : LoadWithin wall load) where
-  near : position load ≤ 11500
+  near : position load ≤ longest
   unfolding reach
   near = go (isDown load) (l .place)
     where
-      go : (b : Bool) → position load ≤ cond b (baseLength wall) (wallHeight wall) → position load ≤ 11500
+      go : (b : Bool) → position load ≤ cond b (baseLength wall) (wallHeight wall) → position load ≤ longest
       go true h = omega (arith, base-length w)
       go false h = omega (arith, wall-height w)
 

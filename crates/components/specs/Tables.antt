@@ -8,6 +8,7 @@ use lib.IntN.{ℤ, pos}
 use Rattle.rules.specs.JobFile.{Wall, Load, stemHeight, baseThickness, activeCoefficient, restCoefficient, direction, isDown, position, deadLoad, liveLoad}
 use Rattle.rules.specs.Answered.{fits}
 use Rattle.rules.specs.Forces.{saturatedHeight, Sort, deadWeight, liveWeight, Component, pushRows, loadTable, table}
+use Rattle.rules.proofs.Accepted.{longest}
 use Rattle.components.specs.declared.Case.{Case}
 use Rattle.components.specs.declared.Case.the-variants.{Service, Factored, Stem}
 use Rattle.components.specs.Faces.{rowsOf}
@@ -21,7 +22,7 @@ components = 26
 -- what the numbers of a load are at most, its position among them
 pub record LoadSmall (load : Load) : Type 0 where
   pub numbers : (i : ℕ) → i < 4 → getD load i 0 ≤ 200000
-  pub place : position load ≤ 11500
+  pub place : position load ≤ longest
 
 abbrev pub LoadsSmall : List Load → Type 0
 LoadsSmall loads = (i : ℕ) → LoadSmall (getD loads i [])

@@ -23,7 +23,7 @@ use Rattle.rules.specs.Forces.{saturatedHeight, Component, deadPush, liv
 use Rattle.rules.specs.Bearing.{serviceScale, greatestPeak, blockUnder, serviceBlock, factoredBlock, pressedBy, workedBearing}
 use Rattle.rules.specs.ToeAndStem.{pressureAt, twiceArm, toeWorked, shearOfBearing, momentOfBearing, toeAction, stemLoadRows, stemLoadTable, stemTable, stemAction, toeSection, stemSection, isWorkable, memberUnder, toeUnder, toe, stem}
 use Rattle.rules.specs.SheetLine.{workedWall, numbersBy, line}
-use Rattle.rules.proofs.Accepted.{WallWithin, wall-within, wall-height, LoadWithin, load-within}
+use Rattle.rules.proofs.Accepted.{WallWithin, wall-within, longest, wall-height, LoadWithin, load-within}
 use Rattle.rules.proofs.Examined.{AllFit, Fit}
 use Rattle.rules.proofs.Bits.{one-byte}
 use Rattle.rules.proofs.Pressures.{Pressable, WithinPeak, given-most, factored-pressable, reported-most, pressure-most}
@@ -48,7 +48,7 @@ quotient-small a d h = omega (arith, up-within a d)
 -- ---- the toe
 
 -- twice its arm; the arm ends on the base, and so does the toe
-pub arm-most : {wall : Wall} → WallWithin wall → (twiceArm wall ≤ 11500) × (twiceArm wall ≤ 2 * baseLength wall) × (2 * toeLength wall ≤ 2 * baseLength wall)
+pub arm-most : {wall : Wall} → WallWithin wall → (twiceArm wall ≤ longest) × (twiceArm wall ≤ 2 * baseLength wall) × (2 * toeLength wall ≤ 2 * baseLength wall)
 unfolding baseLength
 arm-most w = omega arith
 

@@ -19,7 +19,7 @@ use Rattle.whole.proofs.Sums.{sumTo-abs, sumTo-mono, sumTo-nonneg, sumOf-factor
 use Rattle.rules.specs.declared.Totals.{Totals}
 use Rattle.rules.specs.JobFile.{Wall, Load, stemHeight, heelLength, waterHeight, soilDensity, activeCoefficient, restCoefficient, passiveCoefficient, baseLength, wallHeight, isDown, position, greatestLoad, reach, frictionTangent}
 use Rattle.rules.specs.Forces.{squared, saturatedHeight, stemWeight, baseWeight, saturatedWeight, moistWeight, surchargeWeight, surchargePush, moistPush, moistPushBelow, saturatedPush, waterPush, Sort, deadWeight, liveWeight, deadPush, livePush, Component, down, across, weightRows, pushRows, loadRow, deadRow, liveRow, loadTable, table, vertical, horizontal, moment, columnSum, once, tenths, restores, overturns, rests, balances, totals, service, factored, passiveDepth, passive, lastingWeight, frictionUnder, thousandths}
-use Rattle.rules.proofs.Accepted.{Lies, WallWithin, wall-within, base-length, wall-height, LoadWithin, load-within}
+use Rattle.rules.proofs.Accepted.{Lies, WallWithin, wall-within, longest, base-length, wall-height, LoadWithin, load-within}
 use Rattle.rules.proofs.Examined.{AllFit, Fit}
 use Rattle.rules.proofs.Roundings.{stem-weight, base-weight, saturated-weight, moist-weight, surcharge-weight, surcharge-push, moist-push, moist-push-below, saturated-push, water-push, passive-force}
 
@@ -93,7 +93,7 @@ pub record Sound (l heavy : ℕ) (c : Component) : Type 0 where
 
 -- a weight stands on the base
 pub weight : {sort : Sort} {force sixfold l heavy : ℕ} → balances sort ≡ pos 1
-    → (force ≤ heavy) × (heavy ≤ 1200001) × (l ≤ 11500) × (sixfold ≤ 6 * l) → Sound l heavy (down sort force sixfold)
+    → (force ≤ heavy) × (heavy ≤ 1200001) × (l ≤ longest) × (sixfold ≤ 6 * l) → Sound l heavy (down sort force sixfold)
 weight {force = f} {sixfold = d} e h =
     let small : f ≤ 1200001 = omega arith in
     let near : d ≤ 69000 = omega arith in

@@ -4,13 +4,13 @@ use lib.Dec.{T}
 use borrow.Author.Needs.{needs}
 use Rattle.rules.specs.JobFile.{Wall, baseLength, wallFits}
 use Rattle.rules.specs.Forces.{weightRows}
-use Rattle.rules.proofs.Accepted.{Lies, WallWithin, wall-within, base-length}
+use Rattle.rules.proofs.Accepted.{longest, Lies, WallWithin, wall-within, base-length}
 use Rattle.rules.proofs.Sizes.{Weighed, weighed}
 use Rattle.components.proofs.rows.weight_rows.Statement.{statement}
 use Rattle.components.proofs.rows.weight_rows.Tie as tie
 
 -- what bounds the weights and their distances
-known-of : (wall : Wall) → T (wallFits wall) → WallWithin wall × Weighed wall × Lies 200 11500 (baseLength wall)
+known-of : (wall : Wall) → T (wallFits wall) → WallWithin wall × Weighed wall × Lies 200 longest (baseLength wall)
 known-of wall fits = let w = wall-within wall fits in (w, weighed w, base-length w)
 
 base-length-requires : tie.Need-base-length-requires
