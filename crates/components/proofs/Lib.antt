@@ -1,3 +1,4 @@
 pub mod Cells
 pub mod InPlace
 pub mod OnStem
+pub mod Once

@@ -14,6 +14,7 @@ use Rattle.rules.specs.JobFile.{File, Load, Entry, wallCount, mostWalls, mostLo
 use Rattle.rules.specs.Answered.{accepted}
 use Rattle.rules.proofs.AcceptedFile.{records-length, record-at, wall-count, loads-fit, few-loads}
 use Rattle.rules.proofs.LoadsOfWalls.{loads-are}
+use Rattle.rules.proofs.Absent.{Absent}
 use Rattle.rules.proofs.Examined.{absent-fits}
 use Rattle.job.specs.Places.{padded, noLoad, placesOn, placeTable, withPlace, loadNumbered, loadsAt}
 
@@ -149,6 +150,10 @@ padded-has p none d (suc n) [] has all (suc k) = padded-has p none d n [] has al
 padded-has p none d (suc n) (x ∷ xs) has all zero = all 0 (omega arith)
 padded-has p none d (suc n) (x ∷ xs) has all (suc k) = padded-has p none d n xs has (λ j h. all (suc j) (omega arith)) k
 
+-- a row of zeros is an absent load
+pub absent : Absent noLoad
+absent = record { down = refl; at-toe = refl; dead = refl; live = refl }
+
 module _ (file : File) (t : T (accepted file)) (i : ℕ) (h : i < wallCount file) where
   its : loadsAt file (getD (placeTable (entries file)) i []) ≡ padded noLoad mostLoadsOnWall (loadsOn (suc i) (entries file))
   its = let few = wall-count file t .1 in loads-of-wall file i (omega arith)
@@ -157,6 +162,10 @@ module _ (file : File) (t : T (accepted file)) (i : ℕ) (h : i < wallCount file
   pub rows-of-wall : loadsAt file (getD (placeTable (entries file)) i [])
       ≡ loadsOn (suc i) (entries file) ++ replicate (mostLoadsOnWall - length (loadsOn (suc i) (entries file))) noLoad
   rows-of-wall = its ∙ padded-is noLoad mostLoadsOnWall (loadsOn (suc i) (entries file)) (few-loads file t (suc i))
+
+  -- and with them there are no more than a wall may have
+  pub room-for-rows : length (loadsOn (suc i) (entries file)) + (mostLoadsOnWall - length (loadsOn (suc i) (entries file))) ≤ mostLoadsOnWall
+  room-for-rows = omega (arith, few-loads file t (suc i))
 
   -- every row that is read fits the wall
   pub rows-fit : (k : ℕ) → T (loadFits (wallAt file i) (getD (loadsAt file (getD (placeTable (entries file)) i [])) k noLoad))

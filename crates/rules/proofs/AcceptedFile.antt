@@ -134,20 +134,27 @@ pub wall-count : (file : File) → T (accepted file) → (1 ≤ wallCount file) 
 wall-count file t = walls-counted file (counts-fit file t)
 
 -- there are no more loads than a file may have
-pub load-count : (file : File) → T (accepted file) → loadCount file ≤ mostLoads
+pub loads-counted : (file : File) → T (countsFit file) → loadCount file ≤ mostLoads
 unfolding countsFit
-load-count file t =
+loads-counted file t =
     let n = wallCount file in
-    leb→le (loadCount file) mostLoads (both (leb 1 n && leb n mostWalls) (leb (loadCount file) mostLoads) (counts-fit file t) .1)
+    leb→le (loadCount file) mostLoads (both (leb 1 n && leb n mostWalls) (leb (loadCount file) mostLoads) t .1)
 
--- the file ends where its last load does
-pub length-is : (file : File) → T (accepted file) → length file ≡ entriesAt file + entryBytes * loadCount file
+pub load-count : (file : File) → T (accepted file) → loadCount file ≤ mostLoads
+load-count file t = loads-counted file (counts-fit file t)
+
+-- the file is as long as its header says, and ends where its last load does
+pub ends : (file : File) → T (offsetsAndLengthFit file)
+    → (wholeLength file ≡ length file) × (wholeLength file ≡ entriesAt file + entryBytes * loadCount file)
 unfolding offsetsAndLengthFit
-length-is file t =
+ends file t =
     let end = entriesAt file + entryBytes * loadCount file in
     let starts = eqb (firstWallOffset file) headerBytes && eqb (firstLoadOffset file) (entriesAt file) in
-    let h = both (starts && eqb (wholeLength file) end) (eqb (wholeLength file) (length file)) (offsets-fit file t) in
-    sym (eqb→eq (wholeLength file) (length file) (h .1)) ∙ eqb→eq (wholeLength file) end (both starts (eqb (wholeLength file) end) (h .0) .1)
+    let h = both (starts && eqb (wholeLength file) end) (eqb (wholeLength file) (length file)) t in
+    (eqb→eq (wholeLength file) (length file) (h .1), eqb→eq (wholeLength file) end (both starts (eqb (wholeLength file) end) (h .0) .1))
+
+pub length-is : (file : File) → T (accepted file) → length file ≡ entriesAt file + entryBytes * loadCount file
+length-is file t = let h = ends file (offsets-fit file t) in sym (h .0) ∙ h .1
 
 -- ---- the walls
 

@@ -16,7 +16,7 @@ use Rattle.rules.specs.Answered.{countsFit, offsetsAndLengthFit, firstBa
 use Rattle.rules.specs.Forces.{saturatedHeight, stemWeight, baseWeight, saturatedWeight, moistWeight, surchargeWeight, surchargePush, moistPush, moistPushBelow, saturatedPush, waterPush, weightRows, pushRows, loadRow, deadRow, liveRow, loadTable, table, columnSum, totals, service, factored, passiveDepth, passive, lastingWeight, frictionUnder, isPropped, slidingUnder, slidingOf, workedForces}
 use Rattle.rules.specs.Bearing.{serviceScale, isNone, isFull, isFromToe, isFromHeel, kindOf, ofKind, blockOf, reported, peak, given, blockUnder, serviceBlock, factoredBlock, pressedBy, workedBearing}
 use Rattle.rules.specs.ToeAndStem.{scaled, pressureBy, pressureAt, toeWorked, shearOfBearing, shearOfWeight, momentOfBearing, momentOfWeight, toeAction, stemLoadTable, stemTable, stemAction, twiceDepth, needsCompression, bears, greatest, leverArm, neededArea, leastArea, besides, barArea, providedArea, requiredArea, steelFails, shearFails, memberUnder, toeUnder, toe, stem}
-use Rattle.rules.specs.SheetLine.{ascii, workedWall, failsBy, bitsAmong, failuresBy, numbersBy, line, linesFrom, sheet, joined, digits, decimal, signedDecimal, twoHexDigits, lineRest, lineText, printed}
+use Rattle.rules.specs.SheetLine.{ascii, workedWall, failsBy, bitsAmong, failuresBy, numbersBy, line, linesFrom, sheet, joined, digits, decimal, signedDecimal, hexDigits, lineRest, lineText, printed}
 
 -- what the definitions give, and what document 01 wants
 pub record Point : Type 1 where
@@ -95,5 +95,5 @@ Hold [] = Unit
 Hold (p ∷ rest) = (p .worked ≡ p .wanted) × Hold rest
 
 pub points-hold : Hold points
-unfolding excavatedA shown u16At u32At u32sAt entriesAt wallAt recordsFrom walls entries loadsOn baseLength wallHeight among within firstOutside firstBadField wallFits countsFit offsetsAndLengthFit firstBadWall firstBadLoad firstRefusal saturatedHeight stemWeight baseWeight saturatedWeight moistWeight surchargeWeight surchargePush moistPush moistPushBelow saturatedPush waterPush weightRows pushRows loadRow deadRow liveRow loadTable table columnSum totals service factored passiveDepth passive lastingWeight frictionUnder isPropped slidingUnder slidingOf workedForces isNone isFull isFromToe isFromHeel kindOf ofKind blockOf reported peak given blockUnder serviceBlock factoredBlock pressedBy workedBearing scaled pressureBy pressureAt toeWorked shearOfBearing shearOfWeight momentOfBearing momentOfWeight toeAction stemLoadTable stemTable stemAction twiceDepth needsCompression bears greatest leverArm neededArea leastArea besides barArea providedArea requiredArea steelFails shearFails memberUnder toeUnder toe stem workedWall failsBy bitsAmong failuresBy numbersBy line linesFrom sheet joined digits decimal signedDecimal twoHexDigits lineRest lineText printed roundedUp roundedDown roundedNearest sumOf
+unfolding excavatedA shown u16At u32At u32sAt entriesAt wallAt recordsFrom walls entries loadsOn baseLength wallHeight among within firstOutside firstBadField wallFits countsFit offsetsAndLengthFit firstBadWall firstBadLoad firstRefusal saturatedHeight stemWeight baseWeight saturatedWeight moistWeight surchargeWeight surchargePush moistPush moistPushBelow saturatedPush waterPush weightRows pushRows loadRow deadRow liveRow loadTable table columnSum totals service factored passiveDepth passive lastingWeight frictionUnder isPropped slidingUnder slidingOf workedForces isNone isFull isFromToe isFromHeel kindOf ofKind blockOf reported peak given blockUnder serviceBlock factoredBlock pressedBy workedBearing scaled pressureBy pressureAt toeWorked shearOfBearing shearOfWeight momentOfBearing momentOfWeight toeAction stemLoadTable stemTable stemAction twiceDepth needsCompression bears greatest leverArm neededArea leastArea besides barArea providedArea requiredArea steelFails shearFails memberUnder toeUnder toe stem workedWall failsBy bitsAmong failuresBy numbersBy line linesFrom sheet joined digits decimal signedDecimal hexDigits lineRest lineText printed roundedUp roundedDown roundedNearest sumOf
 points-hold = (refl, (refl, (refl, (refl, (refl, (refl, (refl, (refl, (refl, (refl, (refl, (refl, (refl, (refl, (refl, (refl, tt))))))))))))))))

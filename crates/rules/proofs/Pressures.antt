@@ -1,5 +1,5 @@
 -- What the factored block of an accepted wall is at a point: its figures are not negative and small, and no pressure is above the greatest peak.
-use mathlib.Core.Path.{_≡_, refl}
+use mathlib.Core.Path.{_≡_, refl, ap}
 use mathlib.Core.List.{List}
 use Prim.Native.Nat.{ℕ, _+_, _-_, _*_, _≤_, _<_}
 use native.Mathlib.Nat.{mul-le-mul, mul-le-mul-left, mul-le-mul-right, le-trans}
@@ -15,8 +15,9 @@ use Rattle.rules.specs.declared.Fraction.{Fraction}
 use Rattle.rules.specs.declared.Kind.{Kind}
 use Rattle.rules.specs.declared.Kind.the-variants.{Full, FromToe, FromHeel, NoBlock}
 use Rattle.rules.specs.declared.Block.{Block}
+use Rattle.rules.specs.declared.Pressed.{Pressed}
 use Rattle.rules.specs.JobFile.{Wall, Load, baseLength}
-use Rattle.rules.specs.Bearing.{kindOf, noBlock, ofKind, blockOf, factoredScale, reported, peak, greatestPeak, given, blockUnder, factoredBlock, isGiven}
+use Rattle.rules.specs.Bearing.{kindOf, noBlock, ofKind, blockOf, factoredScale, reported, peak, greatestPeak, given, blockUnder, factoredBlock, isGiven, pressedBy}
 use Rattle.rules.specs.ToeAndStem.{scaled, onLine, pressureBy}
 use Rattle.rules.proofs.Accepted.{wall-within, longest, base-length}
 use Rattle.rules.proofs.Examined.{Fit}
@@ -39,6 +40,12 @@ pub record Pressable (l : ℕ) (b : Block) : Type 0 where
   pub heel-limit : factoredScale * aboveZero (b .heel .over) ≤ greatestPeak * aboveZero (b .heel .under)
   pub even : b .kind ≡ Full → (b .toe .under ≡ pos (l * l)) × (b .heel .under ≡ pos (l * l))
   pub contact : Reaches (b .contact)
+
+-- the pressures of a block that reports them
+pub reports : (scale : ℕ) {p : Pressed} → p ≡ pressedBy scale (p .block)
+    → (p .toe ≡ reported scale (p .block .toe)) × (p .heel ≡ reported scale (p .block .heel))
+unfolding pressedBy
+reports scale e = (ap (λ p. p .toe) e, ap (λ p. p .heel) e)
 
 -- the pressures that a block reports are no more than the greatest peak
 abbrev pub WithinPeak : ℕ → Block → Type 0

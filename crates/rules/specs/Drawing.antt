@@ -1,12 +1,14 @@
 -- Document 01, "The bearing block", its last paragraph: the service block for the drawing office, from a job file and a wall's number.
--- Each figure is one division of two whole numbers in IEEE 754's binary64: `ofInt` makes a double of each, and `div` rounds their quotient once.
+-- A figure is a quotient in IEEE 754's binary64: `ofInt` makes doubles of dividend and divisor, and `div` rounds once.
 use Prim.Native.Nat.{ℕ}
+use Prim.Native.Char.{code}
 use mathlib.Core.Path.{_≡_}
 use mathlib.Core.Bool.{not, cond}
+use mathlib.Core.List.{List, [], _∷_, _++_}
 use lib.IntN.{ℤ, pos, _*ℤ_}
-use lib.Ieee.{Float, binary64, ofInt, div}
+use lib.Ieee.{Float, binary64, ofInt, div, toBits}
 use Rattle.rules.specs.declared.Answer.{Answer}
-use Rattle.rules.specs.declared.Answer.the-variants.{NoSuchWall}
+use Rattle.rules.specs.declared.Answer.the-variants.{Worked, NoSuchWall}
 use Rattle.rules.specs.declared.Block.{Block}
 use Rattle.rules.specs.declared.Drawing.{Drawing}
 use Rattle.rules.specs.declared.Drawn.{Drawn}
@@ -20,6 +22,7 @@ use Rattle.rules.specs.JobFile.{File, walls, entries, loadsOn}
 use Rattle.rules.specs.Answered.{isWorked, refusedIf, _orElse_, isThere, numbered, firstRefusal}
 use Rattle.rules.specs.Forces.{service}
 use Rattle.rules.specs.Bearing.{serviceScale, reported, serviceBlock}
+use Rattle.rules.specs.SheetLine.{ascii, hexDigits, refusalText}
 
 unfoldable pub quotient : ℤ → ℤ → Float
 quotient a b = div binary64 (ofInt binary64 a) (ofInt binary64 b)
@@ -58,7 +61,7 @@ unfoldable pub drawn : File → ℕ → Drawn
 drawn file n =
     let wall = numbered n (walls file) in
     let its = loadsOn n (entries file) in
-    record { answer = answerToDrawing file n; drawing = drawingOf (service wall its); shape = shapeOf (serviceBlock wall its) }
+    record { answer = Worked; drawing = drawingOf (service wall its); shape = shapeOf (serviceBlock wall its) }
 
 -- of a refusal: no shape, and 0 for each figure
 unfoldable pub undrawn : Answer → Drawn
@@ -72,3 +75,35 @@ drawingFor file n = cond (isWorked (answerToDrawing file n)) (drawn file n) (und
 -- what is answered where wall n is to be drawn
 pub record Draws (file : File) (n : ℕ) (answer : Drawn) : Type 0 where
   pub answered : answer ≡ drawingFor file n
+
+-- ---- the printed drawing, in hex: the shape's name and every figure's bits, or the refusal
+
+unfoldable pub shapeName : Shape → List ℕ
+shapeName (Whole toe heel) = ascii "whole"
+shapeName (ToeTriangle peak contact) = ascii "toe"
+shapeName (HeelTriangle peak contact) = ascii "heel"
+shapeName Nothing = ascii "nothing"
+
+unfoldable pub shapeFigures : Shape → List Float
+shapeFigures (Whole toe heel) = toe ∷ heel ∷ []
+shapeFigures (ToeTriangle peak contact) = peak ∷ contact ∷ []
+shapeFigures (HeelTriangle peak contact) = peak ∷ contact ∷ []
+shapeFigures Nothing = []
+
+unfoldable pub figures : Drawn → List Float
+figures d = d .drawing .vertical ∷ d .drawing .horizontal ∷ d .drawing .distance ∷ shapeFigures (d .shape)
+
+-- a double's bits
+unfoldable pub figureText : Float → List ℕ
+figureText x = hexDigits 16 (toBits binary64 x)
+
+-- figures, a space before each
+unfoldable pub figuresText : List Float → List ℕ
+figuresText [] = []
+figuresText (x ∷ rest) = code " " ∷ figureText x ++ figuresText rest
+
+unfoldable pub drawnText : Drawn → List ℕ
+drawnText d = shapeName (d .shape) ++ figuresText (figures d) ++ code "\n" ∷ []
+
+unfoldable pub drawingText : Drawn → List ℕ
+drawingText d = cond (isWorked (d .answer)) (drawnText d) (refusalText (d .answer))

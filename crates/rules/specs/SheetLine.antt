@@ -5,7 +5,7 @@ use Prim.Native.String.{String, [] as empty, _∷_ as _then_}
 use mathlib.Core.Path.{_≡_}
 use mathlib.Core.Bool.{Bool, true, false, not, _||_, cond}
 use mathlib.Core.List.{List, [], _∷_, _++_, map}
-use lib.Dec.{ltb, eqb}
+use lib.Dec.{leb, ltb, eqb}
 use lib.ListN.{length, getD, drop, replicate}
 use lib.IntN.{ℤ, pos, negsuc}
 use lib.Signed.{ltZ}
@@ -16,7 +16,7 @@ use Rattle.rules.specs.declared.Check.{Check}
 use Rattle.rules.specs.declared.Check.the-variants.{Slides, Overturns, OverAllowable, NoServiceBlock, NoFactoredBlock, ToeSteel, StemSteel, Sheared}
 use Rattle.rules.specs.declared.WorkedWall.{WorkedWall}
 use Rattle.rules.specs.declared.WallLine.{WallLine}
-use Rattle.rules.specs.JobFile.{File, Wall, Load, Entry, wallCount, allowableBearing, walls, entries, loadsOn}
+use Rattle.rules.specs.JobFile.{File, Wall, Load, Entry, mostWalls, wallCount, allowableBearing, walls, entries, loadsOn}
 use Rattle.rules.specs.Answered.{number, place, isWorked, refusedIf, _orElse_, firstRefusal, examined, fits}
 use Rattle.rules.specs.Bearing.{isGiven, workedBearing}
 use Rattle.rules.specs.ToeAndStem.{toe, stem}
@@ -159,19 +159,21 @@ unfoldable pub signedDecimal : ℤ → List ℕ
 signedDecimal (pos n) = decimal n
 signedDecimal (negsuc n) = code "-" ∷ decimal (suc n)
 
-unfoldable pub twoHexDigits : ℕ → List ℕ
-twoHexDigits n = hexDigit (n / 16 % 16) ∷ hexDigit (n % 16) ∷ []
+-- the last so many hex digits of n, the highest first
+unfoldable pub hexDigits : ℕ → ℕ → List ℕ
+hexDigits zero n = []
+hexDigits (suc places) n = hexDigits places (n / 16) ++ hexDigit (n % 16) ∷ []
 
 -- numbers, a space before each, and the end of the line
 unfoldable pub lineRest : List ℤ → List ℕ
 lineRest [] = code "\n" ∷ []
 lineRest (z ∷ zs) = code " " ∷ signedDecimal z ++ lineRest zs
 
--- a line's numbers; the second of them, the failures, is printed in hex
+-- a line's numbers; the second of them, the failures, is printed in two hex digits
 unfoldable pub lineText : List ℤ → List ℕ
 lineText numbers =
     signedDecimal (getD numbers 0 (pos 0))
-    ++ code " " ∷ twoHexDigits (aboveZero (getD numbers 1 (pos 0)))
+    ++ code " " ∷ hexDigits 2 (aboveZero (getD numbers 1 (pos 0)))
     ++ lineRest (drop 2 numbers)
 
 unfoldable pub refusalText : Answer → List ℕ
@@ -179,3 +181,33 @@ refusalText answer = ascii "refused" ++ lineRest (pos (number answer) ∷ pos (p
 
 unfoldable pub printed : File → List ℕ
 printed file = cond (isWorked (firstRefusal file)) (joined (map lineText (sheet file))) (refusalText (firstRefusal file))
+
+-- ---- a text in a lent buffer
+
+-- room for any number with what stands behind it: a sign, 19 digits, and a space or the end of the line
+abbrev pub numberRoom : ℕ
+numberRoom = 21
+
+-- room for a line, and for the lines of as many walls as a job may have
+abbrev pub lineRoom : ℕ
+lineRoom = numberRoom * lineNumbers
+
+abbrev pub sheetRoom : ℕ
+sheetRoom = lineRoom * mostWalls
+
+-- what a buffer holds after a text was put at its start: beyond it what stood there
+unfoldable pub onto : {A : Type 0} → List A → List A → List A
+onto text before = text ++ drop (length text) before
+
+-- a text is put whole where the buffer has the room for any such text, and otherwise nothing is
+unfoldable pub fitting : ℕ → List ℕ → List ℕ → List ℕ
+fitting room text before = cond (leb room (length before)) text []
+
+-- a text at the start of a lent buffer: how many bytes of it are used, and what it holds after
+pub record Put {A : Type 0} (text before : List A) (count : ℕ) (after : List A) : Type 0 where
+  pub counted : count ≡ length text
+  pub holds : after ≡ onto text before
+
+-- what is put for a job
+abbrev pub Prints : File → List ℕ → ℕ → List ℕ → Type 0
+Prints file before = Put (fitting sheetRoom (printed file) before) before

@@ -146,13 +146,15 @@ pub enum Check {
 // How many numbers a wall's line has.
 pub const LINE: usize = 16;
 
+pub type LineNumbers = [i64; LINE];
+
 // A wall's line, in the order of the sheet, or the refusal and nothing but zeros.
 pub struct WallLine {
     pub answer: Answer,
-    pub numbers: [i64; LINE],
+    pub numbers: LineNumbers,
 }
 
-// The drawing record: the service totals R and H in kN, and R's distance from the toe in mm.
+// What the drawing office draws of a wall's forces in service: R and H, in kN, and how far from the toe R acts, in mm.
 pub struct Drawing {
     pub vertical: f64,
     pub horizontal: f64,

@@ -9,18 +9,11 @@ use Rattle.whole.proofs.Integer.{above-minus, nonneg-aboveZero}
 use Rattle.rules.specs.declared.Fraction.{Fraction}
 use Rattle.rules.specs.declared.Kind.the-variants.{Full}
 use Rattle.rules.specs.declared.Block.{Block}
-use Rattle.rules.specs.declared.Pressed.{Pressed}
-use Rattle.rules.specs.Bearing.{factoredScale, reported, greatestPeak, pressedBy}
+use Rattle.rules.specs.Bearing.{factoredScale, greatestPeak}
 use Rattle.rules.specs.ToeAndStem.{scaled, onLine}
 use Rattle.rules.proofs.Accepted.{longest}
 use Rattle.rules.proofs.Sizes.{heaviestFactored}
 use Rattle.rules.proofs.Pressures.{Reaches, Pressable}
-
--- the pressures of a block that reports them
-pub reports : {p : Pressed} → p ≡ pressedBy factoredScale (p .block)
-    → (p .toe ≡ reported factoredScale (p .block .toe)) × (p .heel ≡ reported factoredScale (p .block .heel))
-unfolding pressedBy
-reports e = (ap (λ p. p .toe) e, ap (λ p. p .heel) e)
 
 -- a peak is scaled by what twice the contact has left
 pub whole-scaled : (peak twice : ℕ) {contact : Fraction} → Reaches contact

@@ -8,6 +8,7 @@ use record::Loads;
 use record::Wall;
 use rules::Borne;
 use rules::LINE;
+use rules::LineNumbers;
 use rules::WallLine;
 use rules::WorkedWall;
 ghost use mathlib.Core.Path.{_≡_};
@@ -18,8 +19,6 @@ ghost use Rattle.rules.specs.Answered.{fits};
 ghost use Rattle.rules.specs.Bearing.{bearingOf};
 ghost use Rattle.rules.specs.SheetLine.{workedWall, numbersBy, lineOf};
 ghost use Rattle.rules.proofs.Sizes.{Small};
-
-type Numbers = [i64; LINE];
 
 // A wall that fits with its loads: to what bears it come its toe and its stem.
 fn worked(wall: Wall, loads: Loads, borne: Borne) -> WorkedWall
@@ -34,7 +33,7 @@ fn worked(wall: Wall, loads: Loads, borne: Borne) -> WorkedWall
 }
 
 // The numbers of a line, in its order.
-fn numbers_of(number: u32, wall: Wall, worked: WorkedWall) -> Numbers
+fn numbers_of(number: u32, wall: Wall, worked: WorkedWall) -> LineNumbers
     requires { ⌜ All (λ z. Small (natAbs z)) (numbersBy number wall worked) ⌝ }
     ensures { λ r. ⌜ r ≡ numbersBy number wall worked ⌝ }
 {

@@ -14,7 +14,7 @@ module _ {A : Type 0} where
   past xs ys d i j k = rw k (getD-append-add xs ys j d)
 
   -- of a mapped list that which the other list has there is mapped
-  mapped : {B : Type 0} (f : B → A) (xs : List B) (i : ℕ) (d : A) (e : B) → i < length xs → getD (map f xs) i d ≡ f (getD xs i e)
+  pub mapped : {B : Type 0} (f : B → A) (xs : List B) (i : ℕ) (d : A) (e : B) → i < length xs → getD (map f xs) i d ≡ f (getD xs i e)
   mapped f [] i d e h = absurd (omega arith)
   mapped f (x ∷ xs) zero d e h = refl
   mapped f (x ∷ xs) (suc i) d e h = mapped f xs i d e (omega arith)

@@ -4,10 +4,10 @@ use Prim.Native.Nat.{ℕ, _-_, _*_, _≤_}
 use native.Mathlib.Omega.{arith}
 use borrow.Author.Needs.{needs}
 use Rattle.rules.specs.declared.Kind.{Kind}
-use Rattle.rules.specs.Bearing.{greatestPeak}
+use Rattle.rules.specs.Bearing.{factoredScale, greatestPeak}
 use Rattle.rules.specs.ToeAndStem.{pressureBy}
-use Rattle.rules.proofs.Pressures.{reported-most, pressure-most}
-use Rattle.wall.proofs.Exact.{reports, whole-scaled, scaled-fits, whole-line, line-fits}
+use Rattle.rules.proofs.Pressures.{reported-most, pressure-most, reports}
+use Rattle.wall.proofs.Exact.{whole-scaled, scaled-fits, whole-line, line-fits}
 use Rattle.wall.proofs.pressure.pressure_at.Statement.{statement}
 use Rattle.wall.proofs.pressure.pressure_at.Tie as tie
 
@@ -50,7 +50,7 @@ scaled-peak-requires : tie.Need-scaled-peak-requires
 scaled-peak-requires c κs =
     let whole = c .before .before in
     let pre = start whole .pre in
-    rw (reports (pre .0) .0, whole .parts-of3 .ensures .0, whole .parts-of3 .ensures .1)
+    rw (reports factoredScale (pre .0) .0, whole .parts-of3 .ensures .0, whole .parts-of3 .ensures .1)
     (scaled-fits (reported-most (pre .1) .0) (pre .1 .contact) (omega (arith, pre .1 .long)))
 
 enum-told-3 : tie.Need-enum-told-3
@@ -60,7 +60,7 @@ scaled-peak-requires-2 : tie.Need-scaled-peak-requires-2
 scaled-peak-requires-2 c κs =
     let whole = c .before .before in
     let pre = start whole .pre in
-    rw (reports (pre .0) .1, whole .parts-of3 .ensures .0, whole .parts-of3 .ensures .1)
+    rw (reports factoredScale (pre .0) .1, whole .parts-of3 .ensures .0, whole .parts-of3 .ensures .1)
     (scaled-fits (reported-most (pre .1) .1) (pre .1 .contact) (omega (arith, pre .1 .long)))
 
 enum-told-4 : tie.Need-enum-told-4
@@ -84,13 +84,13 @@ returns-2 : tie.Need-returns-2
 unfolding pressureBy
 returns-2 c =
     let call = start (c .before .before .before) in
-    bounded call (c .before .enum-told2 .given .1) (cc (reports (call .pre .0) .0, whole-scaled (call .args .pressed .toe) (call .args .twice) (call .pre .1 .contact)))
+    bounded call (c .before .enum-told2 .given .1) (cc (reports factoredScale (call .pre .0) .0, whole-scaled (call .args .pressed .toe) (call .args .twice) (call .pre .1 .contact)))
 
 returns-3 : tie.Need-returns-3
 unfolding pressureBy
 returns-3 c =
     let call = start (c .before .before .before) in
-    bounded call (c .before .enum-told3 .given .1) (cc (reports (call .pre .0) .1, whole-scaled (call .args .pressed .heel) (2 * call .args .l - call .args .twice) (call .pre .1 .contact)))
+    bounded call (c .before .enum-told3 .given .1) (cc (reports factoredScale (call .pre .0) .1, whole-scaled (call .args .pressed .heel) (2 * call .args .l - call .args .twice) (call .pre .1 .contact)))
 
 returns-4 : tie.Need-returns-4
 unfolding pressureBy

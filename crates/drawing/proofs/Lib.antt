@@ -1,0 +1,2 @@
+pub mod OwnLoads
+pub mod Read

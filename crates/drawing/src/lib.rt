@@ -1,0 +1,63 @@
+// Document 01, "The bearing block", its last paragraph: a wall of a job file for the drawing office, as doubles.
+mod figures;
+
+use rules::Answer;
+use rules::Drawing;
+use rules::Drawn;
+use rules::Shape;
+ghost use mathlib.Core.Path.{_≡_};
+ghost use Prim.Native.Nat.{_<_, suc};
+ghost use lib.Dec.{T};
+ghost use Rattle.rules.specs.JobFile.{wallCount};
+ghost use Rattle.rules.specs.Answered.{accepted};
+ghost use Rattle.rules.specs.Drawing.{Draws, drawn, undrawn};
+
+// Of a refusal: no shape, and 0 for each figure.
+fn undrawn(refusal: Answer) -> Drawn
+    ensures { λ r. ⌜ r ≡ undrawn refusal ⌝ }
+{
+    Drawn {
+        answer: refusal,
+        drawing: Drawing {
+            vertical: 0.0,
+            horizontal: 0.0,
+            distance: 0.0,
+        },
+        shape: Shape::Nothing,
+    }
+}
+
+// The wall at an index from 0 of a job that is accepted.
+fn drawn_at(job: &[u8], i: u32) -> Drawn
+    requires { ⌜ T (accepted (now job)) × (i < wallCount (now job)) ⌝ }
+    ensures { λ r. ⌜ r ≡ drawn (now (job .entry)) (suc i) ⌝ }
+{
+    let places = job::places(job);
+    let index = i as usize;
+    let loads = job::loads_at(job, places[index]);
+    let borne = bearing::blocks(job::wall_at(job, i), loads);
+    let forces = borne.forces;
+    Drawn {
+        answer: Answer::Worked,
+        drawing: figures::drawing_of(forces.service),
+        shape: figures::shape_of(borne.service),
+    }
+}
+
+// The drawing of a wall, by its number in the file; or the refusal, with nothing drawn.
+pub fn drawing(job: &[u8], wall: u32) -> Drawn
+    ensures { λ r. ⌜ Draws (now (job .entry)) wall r ⌝ }
+{
+    let answer = answer::first_refusal(job);
+    if !answer::is_worked(answer) {
+        return undrawn(answer);
+    }
+    let walls = job::wall_count(job) as u32;
+    if wall < 1 {
+        return undrawn(Answer::NoSuchWall(wall));
+    }
+    if walls < wall {
+        return undrawn(Answer::NoSuchWall(wall));
+    }
+    drawn_at(job, wall - 1)
+}

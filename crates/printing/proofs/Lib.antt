@@ -1,0 +1,5 @@
+pub mod Begun
+pub mod Decimals
+pub mod Lengths
+pub mod Owned
+pub mod Signs

@@ -1,0 +1,151 @@
+-- Document 01, "How strictly it is promised", its four idle versions: none of them meets the promise. One job of two unlike walls tells on each.
+use Prim.Native.Nat.{ℕ, zero, suc, _+_, _*_, _≤_, _<_}
+use native.Mathlib.Omega.{arith}
+use mathlib.Core.Path.{_≡_, refl, ap, _∙_}
+use mathlib.Core.List.{List, [], _∷_, _++_}
+use lib.Dec.{T}
+use lib.IntN.{ℤ, pos}
+use lib.ListN.{length, getD, set, drop, replicate, length-replicate}
+use Rattle.whole.specs.Rounding.{roundedNearest}
+use Rattle.whole.specs.Sum.{sumOf}
+use Rattle.rules.specs.declared.Answer.{Answer}
+use Rattle.rules.specs.declared.Answer.the-variants.{Worked}
+use Rattle.rules.specs.JobFile.{File, Wall, wallCount, u16At, u32At, u32sAt, entriesAt, wallAt, recordsFrom, walls, entries, loadsOn, baseLength, wallHeight, among, within, firstOutside, firstBadField, wallFits}
+use Rattle.rules.specs.Answered.{accepted, countsFit, offsetsAndLengthFit, firstBadWall, firstBadLoad, firstRefusal}
+use Rattle.rules.specs.Forces.{saturatedHeight, stemWeight, baseWeight, saturatedWeight, moistWeight, surchargeWeight, weightRows, pushRows, loadTable, table, columnSum, totals, service, workedForces}
+use Rattle.rules.specs.Bearing.{workedBearing}
+use Rattle.rules.specs.SheetLine.{lineNumbers, workedWall, numbersBy, line, linesFrom, sheet, joined, answerTo, bufferAfter, Calculates, digit, digits, decimal, signedDecimal, hexDigits, lineRest, lineText, printed, sheetRoom, onto, Prints}
+use Rattle.rules.proofs.Fitting.{fits}
+use Rattle.rules.proofs.Points.{u16s, u32s, caseA, wallA}
+
+-- ---- the job: wall A with its stem 2000 mm high, and then wall A as it is
+
+unfoldable lowA : Wall
+unfolding wallA
+lowA = set wallA 1 2000
+
+unfoldable twoWalls : File
+unfolding lowA
+twoWalls = u16s (1 ∷ 2 ∷ 12 ∷ 0 ∷ 260 ∷ 260 ∷ []) ++ u32s (lowA ++ wallA)
+
+-- room for both lines
+abbrev lent : List ℤ
+lent = replicate 32 (pos 0)
+
+abbrev after : List ℤ
+after = bufferAfter twoWalls lent
+
+-- the number at a place of a wall's line, walls and places counted from 0; R is at place 2
+abbrev pub numberAt : List ℤ → ℕ → ℕ → ℤ
+numberAt buffer wall place = getD buffer (lineNumbers * wall + place) (pos 0)
+
+-- the first figure of the first wall's R, in print, and room for the print
+abbrev leading : List ℕ → ℕ
+leading text = getD text 5 0
+
+abbrev blank : List ℕ
+blank = replicate sheetRoom 0
+
+-- what the rules make of it, and of case A
+record WorkedOut : Type 0 where
+  answered : answerTo twoWalls 32 ≡ Worked
+  passes : T (accepted twoWalls)
+  two : wallCount twoWalls ≡ 2
+  one : numberAt after 0 0 ≡ pos 1
+  low : numberAt after 0 2 ≡ pos 99960
+  high : numberAt after 1 2 ≡ pos 134160
+  case-A : numberAt (joined (sheet caseA)) 0 2 ≡ pos 134160
+  low-printed : leading (printed twoWalls) ≡ digit 9
+  case-A-printed : leading (printed caseA) ≡ digit 1
+
+worked-out : WorkedOut
+unfolding twoWalls u16At u32At u32sAt entriesAt wallAt recordsFrom walls entries loadsOn baseLength wallHeight among within firstOutside firstBadField wallFits countsFit offsetsAndLengthFit firstBadWall firstBadLoad firstRefusal saturatedHeight stemWeight baseWeight saturatedWeight moistWeight surchargeWeight weightRows pushRows loadTable table columnSum totals service workedForces workedBearing workedWall numbersBy line linesFrom sheet joined answerTo bufferAfter digits decimal signedDecimal hexDigits lineRest lineText printed roundedNearest sumOf
+worked-out =
+    record { answered = refl; passes = tt; two = refl; one = refl; low = refl; high = refl; case-A = refl; low-printed = refl; case-A-printed = refl }
+
+-- two numbers that are the same are of one amount
+amount : {a b : ℤ} {m n : ℕ} → a ≡ b → a ≡ pos m → b ≡ pos n → m ≡ n
+amount same is its = cc
+
+-- ---- versions
+
+-- a version of the calculation: what it answers where a file and a buffer are given, and what it leaves in the buffer
+pub record Version : Type 0 where
+  pub answers : File → List ℤ → Answer
+  pub leaves : File → List ℤ → List ℤ
+
+abbrev pub Meets : Version → Type 0
+Meets v = (file : File) (before : List ℤ) → Calculates file before (v .answers file before) (v .leaves file before)
+
+-- one does: it does what the rules say
+pub met : (v : Version) × Meets v
+met = (record { answers = λ file before. answerTo file (length before); leaves = bufferAfter }, λ file before. record { answered = refl; holds = refl })
+
+-- none meets the promise and has this of the file, the buffer before and the buffer after, whenever it works a job
+abbrev pub NoVersion : (File → List ℤ → List ℤ → Type 0) → Type 0
+NoVersion Has =
+    (v : Version) → Meets v → ((file : File) (before : List ℤ) → v .answers file before ≡ Worked → Has file before (v .leaves file before)) → ⊥
+
+-- so it is where the job above hasn't this
+told : (Has : File → List ℤ → List ℤ → Type 0) → (Has twoWalls lent after → ⊥) → NoVersion Has
+told Has hasNot v meets each =
+    let call = meets twoWalls lent in hasNot (rw (call .holds) at (each twoWalls lent (call .answered ∙ worked-out .answered)))
+
+-- ---- the four
+
+-- it refuses everything
+pub refuses-everything : (v : Version) → Meets v → ((file : File) (before : List ℤ) → v .answers file before ≡ Worked → ⊥) → ⊥
+refuses-everything = told (λ file before after. ⊥) (λ never. never)
+
+-- it prints the text of case A for every job that is accepted: a version of the printing leaves the same in a buffer for each
+pub record Printer : Type 0 where
+  pub counts : File → List ℕ → ℕ
+  pub leaves : File → List ℕ → List ℕ
+
+abbrev pub MeetsText : Printer → Type 0
+MeetsText p = (file : File) (before : List ℕ) → Prints file before (p .counts file before) (p .leaves file before)
+
+-- a figure of a text is there with anything behind the text too
+still-there : (text rest : List ℕ) (i n : ℕ) → getD text i 0 ≡ suc n → getD (text ++ rest) i 0 ≡ suc n
+still-there [] rest i n is = absurd (omega (arith, is))
+still-there (x ∷ xs) rest zero n is = is
+still-there (x ∷ xs) rest (suc i) n is = still-there xs rest i n is
+
+-- so it is in what is left of a blank buffer
+in-print : (p : Printer) → MeetsText p → (file : File) (n : ℕ) → leading (printed file) ≡ suc n → leading (p .leaves file blank) ≡ suc n
+unfolding onto
+in-print p meets file n is =
+    let room : sheetRoom ≤ length blank = omega (arith, length-replicate {A = ℕ} sheetRoom 0) in
+    ap leading (meets file blank .holds)
+    ∙ ap (λ (text : List ℕ). leading (onto text blank)) (fits sheetRoom (printed file) blank room)
+    ∙ still-there (printed file) (drop (length (printed file)) blank) 5 n is
+
+pub case-A-for-all : (p : Printer) → MeetsText p
+    → ((file : File) (before : List ℕ) → T (accepted file) → p .leaves file before ≡ p .leaves caseA before) → ⊥
+case-A-for-all p meets idle =
+    let same : leading (p .leaves twoWalls blank) ≡ leading (p .leaves caseA blank) = ap leading (idle twoWalls blank (worked-out .passes)) in
+    omega (arith, same, in-print p meets twoWalls 56 (worked-out .low-printed), in-print p meets caseA 48 (worked-out .case-A-printed))
+
+-- and it has the numbers of case A for the first wall of every job
+abbrev pub HasCaseA : File → List ℤ → List ℤ → Type 0
+HasCaseA file before after = (place : ℕ) → place < lineNumbers → numberAt after 0 place ≡ numberAt (joined (sheet caseA)) 0 place
+
+pub case-A-numbers-for-all : NoVersion HasCaseA
+case-A-numbers-for-all = told HasCaseA (λ same. omega (arith, amount (same 2 (omega arith)) (worked-out .low) (worked-out .case-A)))
+
+-- it writes nothing
+abbrev pub WritesNothing : File → List ℤ → List ℤ → Type 0
+WritesNothing file before after = after ≡ before
+
+pub writes-nothing : NoVersion WritesNothing
+writes-nothing = told WritesNothing (λ same. omega (arith, amount (ap (λ buffer. numberAt buffer 0 0) same) (worked-out .one) refl))
+
+-- it gives each wall the numbers of the first; the one at place 0 is the wall's own
+abbrev pub CopiesFirst : File → List ℤ → List ℤ → Type 0
+CopiesFirst file before after =
+    (wall place : ℕ) → wall < wallCount file → 1 ≤ place → place < lineNumbers → numberAt after wall place ≡ numberAt after 0 place
+
+pub first-wall-for-all : NoVersion CopiesFirst
+first-wall-for-all =
+    told CopiesFirst
+    (λ same. omega (arith, amount (same 1 2 (rw (worked-out .two) (omega arith)) (omega arith) (omega arith)) (worked-out .high) (worked-out .low)))

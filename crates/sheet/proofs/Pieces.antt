@@ -1,0 +1,49 @@
+-- Pieces put one behind the other into a lent buffer: the lines of a sheet, and their texts.
+use Prim.Native.Nat.{ℕ, zero, suc, _+_, _*_, _≤_, _<_}
+use mathlib.Core.Path.{_≡_, sym, ap, subst, _∙_}
+use mathlib.Core.List.{List, [], _∷_, _++_, append-assoc, append-nil}
+use native.Mathlib.Nat.{suc-add}
+use native.Mathlib.Omega.{arith}
+use lib.ListN.{length, getD, take, length-append}
+use lib.Seq.{take-all}
+use Rattle.whole.proofs.Lists.{All}
+use Rattle.rules.specs.SheetLine.{joined, Put}
+use Rattle.rules.proofs.Putting.{behind, withBack, no-text, then-text}
+
+-- so many of the pieces are put
+pub record Pieced {A : Type 0} (pieces : List (List A)) (before : List A) (i at : ℕ) (out : List A) : Type 0 where
+  pub put : Put (joined (take i pieces)) before at out
+
+module _ {A : Type 0} where
+  -- pieces of one length
+  pub joined-length : (n : ℕ) (pieces : List (List A)) → All (λ piece. length piece ≡ n) pieces → length (joined pieces) ≡ n * length pieces
+  unfolding joined
+  joined-length n [] each = omega arith
+  joined-length n (p ∷ ps) each = omega (arith, length-append p (joined ps), each .0, joined-length n ps (each .1))
+
+  -- so many and one more
+  joined-one-more : (pieces : List (List A)) (i : ℕ) → i < length pieces → joined (take (i + 1) pieces) ≡ joined (take i pieces) ++ getD pieces i []
+  unfolding joined
+  joined-one-more [] i h = absurd (omega arith)
+  joined-one-more (p ∷ ps) zero h = append-nil p
+  joined-one-more (p ∷ ps) (suc i) h =
+      ap (λ (n : ℕ). joined (take n (p ∷ ps))) (suc-add i 1)
+      ∙ ap (λ (rest : List A). p ++ rest) (joined-one-more ps i (omega arith))
+      ∙ sym (append-assoc p (joined (take i ps)) (getD ps i []))
+
+  module _ {pieces : List (List A)} {before : List A} where
+    -- none is put yet
+    pub none-put : Pieced pieces before 0 0 before
+    unfolding joined
+    none-put = record { put = no-text before }
+
+    module _ {i at : ℕ} {out : List A} (so-far : Pieced pieces before i at out) where
+      -- the next one goes behind those
+      pub one-further : {part : List A} {count : ℕ} → i < length pieces → Put (getD pieces i []) (behind at out) count part
+          → Pieced pieces before (i + 1) (at + count) (withBack at out part)
+      one-further {part} {count} h put =
+          record { put = rw (joined-one-more pieces i h) (then-text (so-far .put) put) }
+
+      -- at last all are put
+      pub all-put : length pieces ≤ i → Put (joined pieces) before at out
+      all-put h = subst (λ (l : List (List A)). Put (joined l) before at out) (take-all i pieces h) (so-far .put)
