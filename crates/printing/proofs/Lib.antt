@@ -1,4 +1,3 @@
-pub mod Begun
 pub mod Decimals
 pub mod Lengths
 pub mod Owned

@@ -2,10 +2,14 @@
 use Prim.Native.Nat.{ℕ, zero, suc, _+_, _*_, _≤_, _<_}
 use native.Mathlib.Omega.{arith}
 use mathlib.Core.Path.{_≡_, refl, ap, _∙_}
+use mathlib.Core.Bool.{Bool, true, _&&_}
 use mathlib.Core.List.{List, [], _∷_, _++_}
-use lib.Dec.{T}
+use lib.Dec.{T, ltb, leb→le}
 use lib.IntN.{ℤ, pos}
 use lib.ListN.{length, getD, set, drop, replicate, length-replicate}
+use mir.Syntax.{w64}
+use mir.Val.{SFits}
+use Rattle.whole.proofs.Lists.{All}
 use Rattle.whole.specs.Rounding.{roundedNearest}
 use Rattle.whole.specs.Sum.{sumOf}
 use Rattle.rules.specs.declared.Answer.{Answer}
@@ -15,7 +19,9 @@ use Rattle.rules.specs.Answered.{accepted, countsFit, offsetsAndLengthFi
 use Rattle.rules.specs.Forces.{saturatedHeight, stemWeight, baseWeight, saturatedWeight, moistWeight, surchargeWeight, weightRows, pushRows, loadTable, table, columnSum, totals, service, workedForces}
 use Rattle.rules.specs.Bearing.{workedBearing}
 use Rattle.rules.specs.SheetLine.{lineNumbers, workedWall, numbersBy, line, linesFrom, sheet, joined, answerTo, bufferAfter, Calculates, digit, digits, decimal, signedDecimal, hexDigits, lineRest, lineText, printed, sheetRoom, onto, Prints}
+use Rattle.rules.proofs.Accepted.{both}
 use Rattle.rules.proofs.Fitting.{fits}
+use Rattle.rules.proofs.LongInput.{IsByte}
 use Rattle.rules.proofs.Points.{u16s, u32s, caseA, wallA}
 
 -- ---- the job: wall A with its stem 2000 mm high, and then wall A as it is
@@ -46,10 +52,16 @@ leading text = getD text 5 0
 abbrev blank : List ℕ
 blank = replicate sheetRoom 0
 
+-- is every number of a list a byte?
+abbrev areBytes : List ℕ → Bool
+areBytes [] = true
+areBytes (n ∷ rest) = ltb n 256 && areBytes rest
+
 -- what the rules make of it, and of case A
 record WorkedOut : Type 0 where
   answered : answerTo twoWalls 32 ≡ Worked
   passes : T (accepted twoWalls)
+  bytes : T (areBytes twoWalls)
   two : wallCount twoWalls ≡ 2
   one : numberAt after 0 0 ≡ pos 1
   low : numberAt after 0 2 ≡ pos 99960
@@ -57,11 +69,12 @@ record WorkedOut : Type 0 where
   case-A : numberAt (joined (sheet caseA)) 0 2 ≡ pos 134160
   low-printed : leading (printed twoWalls) ≡ digit 9
   case-A-printed : leading (printed caseA) ≡ digit 1
+  case-A-bytes : T (areBytes caseA)
 
 worked-out : WorkedOut
 unfolding twoWalls u16At u32At u32sAt entriesAt wallAt recordsFrom walls entries loadsOn baseLength wallHeight among within firstOutside firstBadField wallFits countsFit offsetsAndLengthFit firstBadWall firstBadLoad firstRefusal saturatedHeight stemWeight baseWeight saturatedWeight moistWeight surchargeWeight weightRows pushRows loadTable table columnSum totals service workedForces workedBearing workedWall numbersBy line linesFrom sheet joined answerTo bufferAfter digits decimal signedDecimal hexDigits lineRest lineText printed roundedNearest sumOf
 worked-out =
-    record { answered = refl; passes = tt; two = refl; one = refl; low = refl; high = refl; case-A = refl; low-printed = refl; case-A-printed = refl }
+    record { answered = refl; passes = tt; bytes = tt; two = refl; one = refl; low = refl; high = refl; case-A = refl; low-printed = refl; case-A-printed = refl; case-A-bytes = tt }
 
 -- two numbers that are the same are of one amount
 amount : {a b : ℤ} {m n : ℕ} → a ≡ b → a ≡ pos m → b ≡ pos n → m ≡ n
@@ -74,27 +87,43 @@ pub record Version : Type 0 where
   pub answers : File → List ℤ → Answer
   pub leaves : File → List ℤ → List ℤ
 
+-- what it may be given: a file of bytes, and a buffer of numbers of 64 bits
+abbrev pub Given : File → List ℤ → Type 0
+Given file before = All IsByte file × All (SFits w64) before
+
 abbrev pub Meets : Version → Type 0
-Meets v = (file : File) (before : List ℤ) → Calculates file before (v .answers file before) (v .leaves file before)
+Meets v = (file : File) (before : List ℤ) → Given file before → Calculates file before (v .answers file before) (v .leaves file before)
 
 -- one does: it does what the rules say
 pub met : (v : Version) × Meets v
-met = (record { answers = λ file before. answerTo file (length before); leaves = bufferAfter }, λ file before. record { answered = refl; holds = refl })
+met = (record { answers = λ file before. answerTo file (length before); leaves = bufferAfter }, λ file before lent. record { answered = refl; holds = refl })
 
 -- none meets the promise and has this of the file, the buffer before and the buffer after, whenever it works a job
 abbrev pub NoVersion : (File → List ℤ → List ℤ → Type 0) → Type 0
 NoVersion Has =
-    (v : Version) → Meets v → ((file : File) (before : List ℤ) → v .answers file before ≡ Worked → Has file before (v .leaves file before)) → ⊥
+    (v : Version) → Meets v
+    → ((file : File) (before : List ℤ) → Given file before → v .answers file before ≡ Worked → Has file before (v .leaves file before)) → ⊥
+
+all-bytes : (list : List ℕ) → T (areBytes list) → All IsByte list
+all-bytes [] t = tt
+all-bytes (n ∷ rest) t = let h = both (ltb n 256) (areBytes rest) t in (leb→le (suc n) 256 (h .0), all-bytes rest (h .1))
+
+all-zeros : (n : ℕ) → All (SFits w64) (replicate n (pos 0))
+all-zeros zero = tt
+all-zeros (suc n) = (record { sfits = omega arith }, all-zeros n)
 
 -- so it is where the job above hasn't this
 told : (Has : File → List ℤ → List ℤ → Type 0) → (Has twoWalls lent after → ⊥) → NoVersion Has
 told Has hasNot v meets each =
-    let call = meets twoWalls lent in hasNot (rw (call .holds) at (each twoWalls lent (call .answered ∙ worked-out .answered)))
+    let may : Given twoWalls lent = (all-bytes twoWalls (worked-out .bytes), all-zeros 32) in
+    let call = meets twoWalls lent may in
+    hasNot (rw (call .holds) at (each twoWalls lent may (call .answered ∙ worked-out .answered)))
 
 -- ---- the four
 
 -- it refuses everything
-pub refuses-everything : (v : Version) → Meets v → ((file : File) (before : List ℤ) → v .answers file before ≡ Worked → ⊥) → ⊥
+pub refuses-everything : (v : Version) → Meets v
+    → ((file : File) (before : List ℤ) → Given file before → v .answers file before ≡ Worked → ⊥) → ⊥
 refuses-everything = told (λ file before after. ⊥) (λ never. never)
 
 -- it prints the text of case A for every job that is accepted: a version of the printing leaves the same in a buffer for each
@@ -103,7 +132,7 @@ pub record Printer : Type 0 where
   pub leaves : File → List ℕ → List ℕ
 
 abbrev pub MeetsText : Printer → Type 0
-MeetsText p = (file : File) (before : List ℕ) → Prints file before (p .counts file before) (p .leaves file before)
+MeetsText p = (file : File) (before : List ℕ) → All IsByte file → All IsByte before → Prints file before (p .counts file before) (p .leaves file before)
 
 -- a figure of a text is there with anything behind the text too
 still-there : (text rest : List ℕ) (i n : ℕ) → getD text i 0 ≡ suc n → getD (text ++ rest) i 0 ≡ suc n
@@ -111,20 +140,28 @@ still-there [] rest i n is = absurd (omega (arith, is))
 still-there (x ∷ xs) rest zero n is = is
 still-there (x ∷ xs) rest (suc i) n is = still-there xs rest i n is
 
+all-blank : (n : ℕ) → All IsByte (replicate n 0)
+all-blank zero = tt
+all-blank (suc n) = (omega arith, all-blank n)
+
 -- so it is in what is left of a blank buffer
-in-print : (p : Printer) → MeetsText p → (file : File) (n : ℕ) → leading (printed file) ≡ suc n → leading (p .leaves file blank) ≡ suc n
+in-print : (p : Printer) → MeetsText p → (file : File) → All IsByte file → (n : ℕ) → leading (printed file) ≡ suc n
+    → leading (p .leaves file blank) ≡ suc n
 unfolding onto
-in-print p meets file n is =
+in-print p meets file bytes n is =
     let room : sheetRoom ≤ length blank = omega (arith, length-replicate {A = ℕ} sheetRoom 0) in
-    ap leading (meets file blank .holds)
+    ap leading (meets file blank bytes (all-blank sheetRoom) .holds)
     ∙ ap (λ (text : List ℕ). leading (onto text blank)) (fits sheetRoom (printed file) blank room)
     ∙ still-there (printed file) (drop (length (printed file)) blank) 5 n is
 
 pub case-A-for-all : (p : Printer) → MeetsText p
-    → ((file : File) (before : List ℕ) → T (accepted file) → p .leaves file before ≡ p .leaves caseA before) → ⊥
+    → ((file : File) (before : List ℕ) → All IsByte file → All IsByte before → T (accepted file) → p .leaves file before ≡ p .leaves caseA before) → ⊥
 case-A-for-all p meets idle =
-    let same : leading (p .leaves twoWalls blank) ≡ leading (p .leaves caseA blank) = ap leading (idle twoWalls blank (worked-out .passes)) in
-    omega (arith, same, in-print p meets twoWalls 56 (worked-out .low-printed), in-print p meets caseA 48 (worked-out .case-A-printed))
+    let two = all-bytes twoWalls (worked-out .bytes) in
+    let same : leading (p .leaves twoWalls blank) ≡ leading (p .leaves caseA blank) = ap leading (idle twoWalls blank two (all-blank sheetRoom) (worked-out .passes)) in
+    let low = in-print p meets twoWalls two 56 (worked-out .low-printed) in
+    let one = in-print p meets caseA (all-bytes caseA (worked-out .case-A-bytes)) 48 (worked-out .case-A-printed) in
+    omega (arith, same, low, one)
 
 -- and it has the numbers of case A for the first wall of every job
 abbrev pub HasCaseA : File → List ℤ → List ℤ → Type 0

@@ -2,6 +2,7 @@ pub mod Absent
 pub mod Accepted
 pub mod AcceptedFile
 pub mod Additive
+pub mod Begun
 pub mod Bits
 pub mod Carries
 pub mod Divisions

@@ -1,35 +1,42 @@
 -- `plotting::figures::put_drawn` meets its contract: the name, the figures behind it, and the end of the line.
 use Prim.Native.Char.{code}
-use mathlib.Core.List.{List, [], _∷_, _++_}
-use Prim.Native.Nat.{ℕ, _+_, _<_}
+use mathlib.Core.Path.{refl}
+use mathlib.Core.List.{List, [], _∷_, _++_, append-assoc}
+use Prim.Native.Nat.{ℕ, _+_}
 use borrow.Author.Needs.{needs}
 use native.Mathlib.Omega.{arith}
-use lib.ListN.{length, length-append}
-use Rattle.rules.specs.SheetLine.{Put}
 use Rattle.rules.specs.Drawing.{shapeName, figures, figuresText, drawnText}
-use Rattle.rules.proofs.Putting.{withBack, then-text, then-byte, put-length, left-behind}
+use Rattle.rules.proofs.Begun.{Begun, Splits, split-length, first-put, used, next-room, next-put, byte-room, last-byte}
+use Rattle.rules.proofs.Putting.{withBack, put-length}
 use Rattle.plotting.proofs.figures.put_drawn.Statement.{statement}
 use Rattle.plotting.proofs.figures.put_drawn.Tie as tie
 
 abbrev named : tie.Start → List ℕ
 named s = shapeName (s .args .drawn .shape)
 
-abbrev rest : tie.Start → List ℕ
-rest s = figuresText (figures (s .args .drawn))
+abbrev drawn : tie.Start → List ℕ
+drawn s = figuresText (figures (s .args .drawn))
 
--- both have room, and one byte more
-room : (s : tie.Start) → (length (named s) + length (rest s) < length (s .args .out .now)) × (length (named s ++ rest s) < length (s .args .out .now))
+abbrev end : List ℕ
+end = code "\n" ∷ []
+
+name-first : (s : tie.Start) → Splits (drawnText (s .args .drawn)) (named s) (drawn s ++ end)
 unfolding drawnText
-room s = omega (arith, length-append (named s) (rest s), length-append (named s ++ rest s) (code "\n" ∷ []), s .pre)
+name-first s = record { parts = append-assoc (named s) (drawn s) end }
+
+figures-next : (s : tie.Start) → Splits (drawn s ++ end) (drawn s) end
+figures-next s = record { parts = refl }
 
 put-name-requires : tie.Need-put-name-requires
-put-name-requires c κs = omega (arith, room (c .before .before))
+put-name-requires c κs = let s = c .before .before in omega (arith, s .pre, split-length (name-first s))
+
+-- the name is put
+name-put : (c : tie.After-put-name) → let s = c .before .before .before in
+    Begun (drawnText (s .args .drawn)) (drawn s ++ end) (s .args .out .now) (c .put-name .result) (c .put-name .last .1 .0)
+name-put c = let s = c .before .before .before in first-put (s .pre) (name-first s) (c .put-name .ensures)
 
 sub-put-figures : tie.Need-sub-put-figures
-sub-put-figures c =
-    let name = c .before .before .put-name .ensures in
-    let there = room (c .before .before .before .before .before) in
-    omega (arith, name .counted, there, put-length name (omega (arith, there)))
+sub-put-figures c = omega (arith, used (name-put (c .before .before)))
 
 part-put-figures-start : tie.Need-part-put-figures-start
 part-put-figures-start c = sub-put-figures c
@@ -38,30 +45,26 @@ part-put-figures-end : tie.Need-part-put-figures-end
 part-put-figures-end c = search needs
 
 put-figures-requires : tie.Need-put-figures-requires
-put-figures-requires c κs =
-    let there = room (c .before .before .before .before .before .before) in
-    omega (arith, there, left-behind (c .before .before .before .put-name .ensures) (omega (arith, there)))
+put-figures-requires c κs = let put = c .before .before .before in next-room (name-put put) (figures-next (put .before .before .before))
 
--- the two are put
-both-put : (c : tie.After-slice-known3) →
-    let s = c .before .before .before .before .before .before .before .before .before in
-    let name = c .before .before .before .before .before .before .put-name in
-    let next = c .before .before .put-figures in
-    Put (named s ++ rest s) (s .args .out .now) (name .result + next .result) (withBack (name .result) (name .last .1 .0) (next .last .1 .0))
-both-put c = then-text (c .before .before .before .before .before .before .put-name .ensures) (c .before .before .put-figures .ensures)
-
-end-within : (c : tie.After-slice-known3) → c .before .before .before .before .before .before .put-name .result + c .before .before .put-figures .result < length (c .before .before .before .before .before .before .before .before .before .args .out .now)
-end-within c = omega (arith, both-put c .counted, room (c .before .before .before .before .before .before .before .before .before))
+-- and the figures behind it
+all-put : (c : tie.After-slice-known3) → let put = c .before .before .before .before .before .before in let s = put .before .before .before in
+    Begun (drawnText (s .args .drawn)) end (s .args .out .now) (put .put-name .result + c .before .before .put-figures .result)
+    (withBack (put .put-name .result) (put .put-name .last .1 .0) (c .before .before .put-figures .last .1 .0))
+all-put c =
+    let put = c .before .before .before .before .before .before in
+    next-put (name-put put) (figures-next (put .before .before .before)) (c .before .before .put-figures .ensures)
 
 add-end : tie.Need-add-end
-add-end c = omega (arith, end-within c)
+add-end c =
+    let s = c .before .before .before .before .before .before .before .before .before in
+    omega (arith, used (all-put c), s .good)
 
 slice-write-out : tie.Need-slice-write-out
-slice-write-out c = omega (arith, end-within c, put-length (both-put c) (omega (arith, room (c .before .before .before .before .before .before .before .before .before))))
+slice-write-out c = omega (arith, byte-room (all-put c) _ refl, used (all-put c))
 
 returns : tie.Need-returns
-unfolding drawnText
-returns c = then-byte _ (both-put c) (end-within c)
+returns c = last-byte (all-put c) _ refl
 
 add-result : tie.Need-add-result
 add-result c = omega (arith, returns c .counted, c .before .before .before .before .before .before .before .before .before .pre)

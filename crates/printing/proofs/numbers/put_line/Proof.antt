@@ -9,7 +9,7 @@ use lib.ListN.{getD, drop}
 use Rattle.rules.specs.SheetLine.{signedDecimal, hexDigits, lineRest, lineText}
 use Rattle.rules.proofs.Putting.{withBack}
 use Rattle.printing.specs.Spaced.{spacedFailures}
-use Rattle.printing.proofs.Begun.{Begun, Splits, split-length, first-put, used, next-room, next-put, last-room, last-put}
+use Rattle.rules.proofs.Begun.{Begun, Splits, split-length, first-put, used, next-room, next-put, last-room, last-put}
 use Rattle.printing.proofs.Owned.{as-is}
 use Rattle.printing.proofs.Signs.{read}
 use Rattle.printing.proofs.numbers.put_line.Statement.{statement}

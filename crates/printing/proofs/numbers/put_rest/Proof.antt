@@ -10,7 +10,7 @@ use lib.ListN.{getD, drop, length-set, drop-of-length-le}
 use lib.Seq.{drop-cons}
 use Rattle.rules.specs.SheetLine.{lineNumbers, lineRest}
 use Rattle.printing.specs.Spaced.{spacedNumber}
-use Rattle.printing.proofs.Begun.{Begun, Splits, none-put, used, next-room, next-put, byte-room, last-byte}
+use Rattle.rules.proofs.Begun.{Begun, Splits, none-put, used, next-room, next-put, byte-room, last-byte}
 use Rattle.printing.proofs.Owned.{as-is}
 use Rattle.printing.proofs.Signs.{read}
 use Rattle.printing.proofs.numbers.put_rest.Statement.{statement}

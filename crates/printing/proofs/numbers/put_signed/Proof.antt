@@ -11,7 +11,7 @@ use mir.ValLaws.{toZ-ofZ}
 use Rattle.whole.proofs.Integer.{leZ-true, leZ-false}
 use Rattle.rules.specs.SheetLine.{decimal}
 use Rattle.rules.proofs.Putting.{put-length}
-use Rattle.printing.proofs.Begun.{Begun, first-byte, used, last-room, last-put}
+use Rattle.rules.proofs.Begun.{Begun, first-byte, used, last-room, last-put}
 use Rattle.printing.proofs.Signs.{read, turned, Cast, not-negative, Turned, negative}
 use Rattle.printing.proofs.numbers.put_signed.Statement.{statement}
 use Rattle.printing.proofs.numbers.put_signed.Tie as tie

@@ -8,7 +8,7 @@ use mir.ValLaws.{toZ-ofZ}
 use Rattle.rules.specs.SheetLine.{signedDecimal}
 use Rattle.rules.proofs.Putting.{put-length}
 use Rattle.printing.specs.Spaced.{spacedNumber}
-use Rattle.printing.proofs.Begun.{Begun, first-byte, last-room, last-put}
+use Rattle.rules.proofs.Begun.{Begun, first-byte, last-room, last-put}
 use Rattle.printing.proofs.numbers.put_spaced.Statement.{statement}
 use Rattle.printing.proofs.numbers.put_spaced.Tie as tie
 

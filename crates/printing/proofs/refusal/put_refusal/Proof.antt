@@ -16,7 +16,7 @@ use Rattle.rules.specs.SheetLine.{ascii, lineRest, refusalText}
 use Rattle.rules.proofs.Putting.{withBack}
 use Rattle.rules.proofs.Fitting.{put-whole}
 use Rattle.printing.specs.Spaced.{spacedNumber}
-use Rattle.printing.proofs.Begun.{Begun, Splits, split-length, first-put, used, next-room, next-put, byte-room, last-byte}
+use Rattle.rules.proofs.Begun.{Begun, Splits, split-length, first-put, used, next-room, next-put, byte-room, last-byte}
 use Rattle.printing.proofs.refusal.put_refusal.Statement.{statement}
 use Rattle.printing.proofs.refusal.put_refusal.Tie as tie
 
