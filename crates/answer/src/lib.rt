@@ -5,20 +5,10 @@ use rules::Answer;
 mod refusals;
 
 ghost use mathlib.Core.Path.{_≡_};
-ghost use Rattle.rules.specs.Answered.{isWorked, firstRefusal};
+ghost use Rattle.rules.specs.Answered.{firstRefusal};
 
 // The edition that is read.
 const EDITION: u16 = 1;
-
-// Is it no refusal?
-pub fn is_worked(answer: Answer) -> bool
-    ensures { λ r. ⌜ r ≡ isWorked answer ⌝ }
-{
-    match answer {
-        Answer::Worked => true,
-        _ => false,
-    }
-}
 
 // What is answered of the file: the tests of the header one after the other, then the walls, then the loads.
 pub fn first_refusal(file: &[u8]) -> Answer
@@ -41,7 +31,7 @@ pub fn first_refusal(file: &[u8]) -> Answer
         return Answer::WrongOffsetOrLength;
     }
     let bad_wall = refusals::first_bad_wall(file);
-    if !is_worked(bad_wall) {
+    if !reply::is_worked(bad_wall) {
         return bad_wall;
     }
     refusals::first_bad_load(file)

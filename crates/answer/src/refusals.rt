@@ -61,7 +61,7 @@ pub fn first_bad_wall(file: &[u8]) -> Answer
     Answer::Worked
 }
 
-// 6: is there a wall that the entry's load is on, and does the load fit it?
+// 6: is there a wall that the entry's load is on, and does the load fit it? That goes by the wall's lengths alone.
 fn entry_fits(file: &[u8], entry: Entry) -> bool
     ensures { λ r. ⌜ r ≡ entryFits (walls (now (file .entry))) entry ⌝ }
 {
@@ -72,8 +72,8 @@ fn entry_fits(file: &[u8], entry: Entry) -> bool
     if (job::wall_count(file) as u32) < number {
         return false;
     }
-    let wall = job::wall_at(file, number - 1);
-    record::load_fits(wall, job::load_of(entry))
+    let lengths = job::lengths_at(file, number - 1);
+    record::load_fits(lengths, job::load_of(entry))
 }
 
 // A count for each wall number, from 0 on.

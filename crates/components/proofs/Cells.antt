@@ -37,8 +37,8 @@ module _ (wall : Wall) (loads : List Load) (f : Fit wall loads) where
       let pushes = pushRows wall (restCoefficient wall) (stemHeight wall) (saturatedHeight wall) in
       let on = map (onStem (baseThickness wall)) loads in
       let face = stem-face within in
-      let behind = pushes-sound _ _ within (restCoefficient wall) _ _ (within .rest .1) (face .0) (face .1) in
       let under = loads-sound greatestLoad within (omega arith) on (stem-fit wall (baseThickness wall) loads f .loads-fit) in
+      let behind = pushes-sound _ _ within (restCoefficient wall) _ _ (within .rest .1) (face .0) (face .1) in
       row-at (baseLength wall) greatestLoad (stemInPlace wall loads)
       (idle refl, (idle refl, (idle refl, (idle refl, (idle refl, all-joined (Sound (baseLength wall) greatestLoad) pushes (loadTable on) behind under)))))
 

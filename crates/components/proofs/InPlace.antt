@@ -1,23 +1,22 @@
 -- The component table as the code fills it: the rows of the rules' table one behind the other, from loads that are small since they fit their wall.
-use mathlib.Core.Path.{_≡_, refl, sym, _∙_}
+use mathlib.Core.Path.{_≡_, refl}
 use mathlib.Core.Bool.{Bool, true, false, cond}
-use mathlib.Core.List.{List, [], _++_, append-assoc, map-append, map-map}
-use Prim.Native.Nat.{ℕ, zero, suc, _+_, _≤_, _<_}
+use mathlib.Core.List.{List, [], _∷_, _++_, append-assoc, map-append, map-map}
+use Prim.Native.Nat.{ℕ, zero, suc, _≤_, _<_}
 use native.Mathlib.Omega.{arith}
 use lib.Dec.{T}
 use lib.Ieee.Bits.{is-true}
-use lib.ListN.{length, getD, length-append, List·getD-append}
+use lib.ListN.{getD}
 use lib.IntN.{ℤ}
 use Rattle.whole.proofs.Lists.{all-at, of-either}
-use Rattle.rules.specs.JobFile.{Wall, Load, mostLoadsOnWall, baseLength, wallHeight, isDown, position, reach}
+use Rattle.rules.specs.JobFile.{Wall, Load, baseLength, wallHeight, isDown, position, reach}
 use Rattle.rules.specs.Answered.{fits}
 use Rattle.rules.specs.Forces.{Component, loadRow, deadRow, liveRow, loadTable}
 use Rattle.rules.proofs.Accepted.{WallWithin, wall-within, longest, base-length, wall-height, LoadWithin, load-within}
 use Rattle.rules.proofs.Examined.{Suits, Fit, absent-fits}
 use Rattle.components.specs.declared.Case.{Case}
 use Rattle.components.specs.Faces.{rowsOf}
-use Rattle.components.specs.Tables.{components, LoadsSmall, partRow, rowsIn, componentsFor, tableOf}
-use Rattle.whole.proofs.Indexed.{past, joined-length, at-first, at-second, at-third}
+use Rattle.components.specs.Tables.{LoadsSmall, partRow, rowsIn, componentsFor, tableOf}
 
 -- ---- the loads
 
@@ -48,6 +47,10 @@ loads-small wall loads f i =
 
 -- ---- the rows
 
+-- five rows are those that each of them is
+pub five : {a b c d e v w x y z : List ℤ} → a ≡ v → b ≡ w → c ≡ x → d ≡ y → e ≡ z → a ∷ b ∷ c ∷ d ∷ e ∷ [] ≡ v ∷ w ∷ x ∷ y ∷ z ∷ []
+five p q r s t = rw (p, q, r, s, t)
+
 -- put in place are the rows of components: weights, pushes and the parts of the loads
 pub in-place : (weights pushes : List Component) (loads : List Load)
     → rowsIn (rowsOf weights) (rowsOf pushes) loads ≡ rowsOf (weights ++ pushes ++ loadTable loads)
@@ -58,41 +61,3 @@ in-place weights pushes loads = simp (map-append, map-map, of-either (λ (c : Co
 pub of-fit : (which : Case) (wall : Wall) (loads : List Load) → T (fits wall loads) → tableOf which wall loads ≡ rowsOf (componentsFor which wall loads)
 unfolding tableOf
 of-fit which wall loads t = rw (is-true (fits wall loads) t)
-
--- how many weights, pushes and loads there are
-pub record Counted (weights pushes : List (List ℤ)) (loads : List Load) : Type 0 where
-  pub of-weights : length weights ≡ 5
-  pub of-pushes : length pushes ≡ 5
-  pub of-loads : length loads ≡ mostLoadsOnWall
-
-module _ {weights pushes : List (List ℤ)} {loads : List Load} (s : Counted weights pushes loads) where
-  first-ten : length (weights ++ pushes) ≡ 10
-  first-ten = rw length-append (omega arith)
-
-  -- together there are as many rows as a wall has components
-  pub rows-length : length (rowsIn weights pushes loads) ≡ components
-  unfolding rowsIn
-  rows-length = joined-length (weights ++ pushes) (partRow 2) (partRow 3) loads 10 8 first-ten (s .of-loads)
-
-  -- the row at an index is a weight's, a push's or that of a load's part
-  module _ (i : ℕ) where
-    abbrev row : List ℤ
-    row = getD (rowsIn weights pushes loads) i []
-
-    front : i < 10 → row ≡ getD (weights ++ pushes) i []
-    unfolding rowsIn
-    front h = at-first (weights ++ pushes) (partRow 2) (partRow 3) loads 10 8 first-ten (s .of-loads) [] [] i h
-
-    pub weight-at : i < 5 → getD weights i [] ≡ row
-    weight-at h = sym (front (omega arith) ∙ List·getD-append weights pushes [] i (omega arith))
-
-    pub push-at : (j : ℕ) → i ≡ 5 + j → j < 5 → getD pushes j [] ≡ row
-    push-at j e h = sym (front (omega arith) ∙ past weights pushes [] i j (omega arith))
-
-    pub dead-at : (part j : ℕ) → part ≡ 2 → i ≡ 10 + j → j < 8 → partRow part (getD loads j []) ≡ row
-    unfolding rowsIn
-    dead-at part j p e h = rw p (sym (at-second (weights ++ pushes) (partRow 2) (partRow 3) loads 10 8 first-ten (s .of-loads) [] [] i j e h))
-
-    pub live-at : (part j : ℕ) → part ≡ 3 → i ≡ 18 + j → j < 8 → partRow part (getD loads j []) ≡ row
-    unfolding rowsIn
-    live-at part j p e h = rw p (sym (at-third (weights ++ pushes) (partRow 2) (partRow 3) loads 10 8 first-ten (s .of-loads) [] [] i j e h))

@@ -2,3 +2,4 @@ pub mod Cells
 pub mod InPlace
 pub mod OnStem
 pub mod Once
+pub mod Runs

@@ -17,6 +17,10 @@ use Rattle.components.specs.Faces.{rowsOf}
 abbrev pub components : ℕ
 components = 26
 
+-- how many of them are weights and pushes
+abbrev pub ownRows : ℕ
+ownRows = 10
+
 -- ---- rows
 
 -- what the numbers of a load are at most, its position among them

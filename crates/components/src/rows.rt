@@ -21,7 +21,7 @@ pub const WEIGHTS: usize = 5;
 pub type WeightRows = [Row; WEIGHTS];
 
 // The stem's table has pushes and loads alone.
-pub const NO_WEIGHTS: WeightRows = [[0, 0, 0], [0, 0, 0], [0, 0, 0], [0, 0, 0], [0, 0, 0]];
+pub const NO_WEIGHTS: WeightRows = [[0; 3]; WEIGHTS];
 
 pub const PUSHES: usize = 5;
 

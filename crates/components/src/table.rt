@@ -16,14 +16,14 @@ use record::POSITION;
 use record::WATER_HEIGHT;
 use record::Wall;
 ghost use mathlib.Core.Path.{_≡_};
-ghost use mathlib.Core.List.{[]};
+ghost use mathlib.Core.List.{_++_};
 ghost use Prim.Native.Nat.{_≤_, _<_, _^_};
 ghost use lib.Dec.{T};
-ghost use lib.ListN.{getD};
+ghost use lib.ListN.{take};
 ghost use Rattle.rules.specs.Answered.{fits};
 ghost use Rattle.rules.specs.Forces.{table};
 ghost use Rattle.components.specs.Faces.{rowsOf};
-ghost use Rattle.components.specs.Tables.{components, LoadSmall, LoadsSmall, partRow, rowsIn};
+ghost use Rattle.components.specs.Tables.{ownRows, LoadSmall, LoadsSmall, partRow, rowsIn};
 
 pub const FIRST_DEAD: usize = WEIGHTS + PUSHES;
 
@@ -53,21 +53,16 @@ fn load_row(load: Load, part: usize) -> Row
     }
 }
 
-// The row at an index.
-fn row_at(weights: WeightRows, pushes: PushRows, loads: Loads, i: usize) -> Row
-    requires { ⌜ (i < components) × LoadsSmall loads ⌝ }
-    ensures { λ r. ⌜ r ≡ getD (rowsIn weights pushes loads) i [] ⌝ }
+// The weights, and behind them as many pushes; where the rows of the loads come there is nothing yet.
+fn own_rows(weights: WeightRows, pushes: PushRows) -> Table
+    ensures { λ r. ⌜ take ownRows r ≡ weights ++ pushes ⌝ }
 {
-    if i < WEIGHTS {
-        return weights[i];
+    let mut table = [[0i64; 3]; COMPONENTS];
+    for i in 0..WEIGHTS {
+        table[i] = weights[i];
+        table[WEIGHTS + i] = pushes[i];
     }
-    if i < FIRST_DEAD {
-        return pushes[i - WEIGHTS];
-    }
-    if i < FIRST_LIVE {
-        return load_row(loads[i - FIRST_DEAD], DEAD);
-    }
-    load_row(loads[i - FIRST_LIVE], LIVE)
+    table
 }
 
 // The rows one behind the other.
@@ -75,9 +70,11 @@ pub fn filled(weights: WeightRows, pushes: PushRows, loads: Loads) -> Table
     requires { ⌜ LoadsSmall loads ⌝ }
     ensures { λ r. ⌜ r ≡ rowsIn weights pushes loads ⌝ }
 {
-    let mut table = [[0i64; 3]; COMPONENTS];
-    for i in 0..COMPONENTS {
-        table[i] = row_at(weights, pushes, loads, i);
+    let mut table = own_rows(weights, pushes);
+    for i in 0..MOST_LOADS_ON_WALL {
+        let load = loads[i];
+        table[FIRST_DEAD + i] = load_row(load, DEAD);
+        table[FIRST_LIVE + i] = load_row(load, LIVE);
     }
     table
 }

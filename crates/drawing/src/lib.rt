@@ -49,7 +49,7 @@ pub fn drawing(job: &[u8], wall: u32) -> Drawn
     ensures { λ r. ⌜ Draws (now (job .entry)) wall r ⌝ }
 {
     let answer = answer::first_refusal(job);
-    if !answer::is_worked(answer) {
+    if !reply::is_worked(answer) {
         return undrawn(answer);
     }
     let walls = job::wall_count(job) as u32;

@@ -32,9 +32,6 @@ byWay down across load = cond (isDown load) down across
 unfoldable pub sortsOf : List Load → List ℕ
 sortsOf loads = firstSorts ++ map (byWay 0 2) loads ++ map (byWay 1 3) loads
 
-unfoldable pub sortAt : List Load → ℕ → ℕ
-sortAt loads i = getD (sortsOf loads) i 0
-
 -- a cell of the table, with the weight that its row's sort has
 abbrev pub weighted : List (List ℤ) → List ℕ → List ℤ → ℕ → ℕ → ℤ
 weighted table sorts weights column i = getD weights (getD sorts i 0) (pos 0) *ℤ getD (getD table i []) column (pos 0)

@@ -6,11 +6,11 @@ use components::Table;
 use record::DIRECTION;
 use record::Load;
 use record::Loads;
+use record::MOST_LOADS_ON_WALL;
 use rules::Totals;
 ghost use mathlib.Core.Path.{_≡_};
 ghost use Prim.Native.Nat.{_<_};
-ghost use Rattle.components.specs.Tables.{components};
-ghost use Rattle.forces.specs.Sorts.{byWay, sortsOf, sortAt, weightedSum, Small, Light, AllLight, totalsBy};
+ghost use Rattle.forces.specs.Sorts.{byWay, sortsOf, weightedSum, Small, Light, AllLight, totalsBy};
 
 // A sort's place among the weights.
 const DEAD_WEIGHT: usize = 0;
@@ -66,8 +66,9 @@ pub const HORIZONTAL: usize = 1;
 
 pub const MOMENT: usize = 2;
 
-// The sorts of the weights and pushes: stem, base and the two fills, surcharge; then its push, and those of earth and water.
-const SORTS: [usize; FIRST_DEAD] = [
+// The sorts of the weights and pushes: stem, base and the two fills, surcharge; then its push, and those of earth and water. The rest is room for the
+// sorts of the loads.
+const SORTS: Sorts = [
     DEAD_WEIGHT,
     DEAD_WEIGHT,
     DEAD_WEIGHT,
@@ -78,6 +79,22 @@ const SORTS: [usize; FIRST_DEAD] = [
     DEAD_PUSH,
     DEAD_PUSH,
     DEAD_PUSH,
+    0,
+    0,
+    0,
+    0,
+    0,
+    0,
+    0,
+    0,
+    0,
+    0,
+    0,
+    0,
+    0,
+    0,
+    0,
+    0,
 ];
 
 fn sort_by_way(load: Load, down: usize, across: usize) -> usize
@@ -86,26 +103,15 @@ fn sort_by_way(load: Load, down: usize, across: usize) -> usize
     if load[DIRECTION] == 0 { down } else { across }
 }
 
-// The sort of the component at an index.
-fn sort_at(loads: Loads, i: usize) -> usize
-    requires { ⌜ i < components ⌝ }
-    ensures { λ r. ⌜ r ≡ sortAt loads i ⌝ }
-{
-    if i < FIRST_DEAD {
-        return SORTS[i];
-    }
-    if i < FIRST_LIVE {
-        return sort_by_way(loads[i - FIRST_DEAD], DEAD_WEIGHT, DEAD_PUSH);
-    }
-    sort_by_way(loads[i - FIRST_LIVE], LIVE_WEIGHT, LIVE_PUSH)
-}
-
+// The sorts of all rows.
 pub fn sorts_of(loads: Loads) -> Sorts
     ensures { λ r. ⌜ r ≡ sortsOf loads ⌝ }
 {
-    let mut sorts = [DEAD_WEIGHT; COMPONENTS];
-    for i in 0..COMPONENTS {
-        sorts[i] = sort_at(loads, i);
+    let mut sorts = SORTS;
+    for i in 0..MOST_LOADS_ON_WALL {
+        let load = loads[i];
+        sorts[FIRST_DEAD + i] = sort_by_way(load, DEAD_WEIGHT, DEAD_PUSH);
+        sorts[FIRST_LIVE + i] = sort_by_way(load, LIVE_WEIGHT, LIVE_PUSH);
     }
     sorts
 }

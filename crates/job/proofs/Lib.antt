@@ -1,3 +1,4 @@
+pub mod Judged
 pub mod Once
 pub mod PlacesOfLoads
 pub mod Records

@@ -15,9 +15,13 @@ use Rattle.rules.proofs.AcceptedFile.{records-more}
 past-end : (file : File) (at : ℕ) → length file ≤ at → byteAt file at ≡ 0
 past-end file at h = List·getD-eq-default file 0 h
 
-pub u16-past-end : (file : File) (at : ℕ) → length file ≤ at → u16At file at ≡ 0
+-- the last byte of a file is a number by itself
+pub u16-last : (file : File) (at : ℕ) → length file ≤ at + 1 → u16At file at ≡ byteAt file at
 unfolding u16At
-u16-past-end file at h = omega (arith, past-end file at h, past-end file (at + 1) (omega arith))
+u16-last file at h = omega (arith, past-end file (at + 1) h)
+
+pub u16-past-end : (file : File) (at : ℕ) → length file ≤ at → u16At file at ≡ 0
+u16-past-end file at h = u16-last file at (omega arith) ∙ past-end file at h
 
 pub u32-past-end : (file : File) (at : ℕ) → length file ≤ at → u32At file at ≡ 0
 unfolding u32At

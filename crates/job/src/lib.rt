@@ -1,4 +1,5 @@
 // A job file taken apart: any bytes have header numbers, walls, entries, and loads of each wall.
+use record::COVER_IN_FRONT;
 use record::DEAD;
 use record::DIRECTION;
 use record::FIELDS;
@@ -8,6 +9,7 @@ use record::Load;
 use record::Loads;
 use record::MOST_LOADS_ON_WALL;
 use record::POSITION;
+use record::STEM_HEIGHT;
 use record::Wall;
 
 mod bytes;
@@ -15,6 +17,7 @@ mod bytes;
 ghost use mathlib.Core.Path.{_≡_};
 ghost use Prim.Native.Nat.{_<_, _^_};
 ghost use Rattle.rules.specs.JobFile.{edition, wallCount, firstWallOffset, loadCount, firstLoadOffset, wholeLength, entriesAt, wallAt, entryAt, entries, loadOf};
+ghost use Rattle.job.specs.Lengths.{lengthsOf};
 ghost use Rattle.job.specs.Places.{loadNumbered, withPlace, placeTable, loadsAt};
 
 // The layout: a header, walls, and behind them entries, each a wall's number and a load.
@@ -98,6 +101,18 @@ pub fn wall_at(file: &[u8], i: u32) -> Wall
         wall[k] = bytes::u32_at(file, at + 4 * k);
     }
     wall
+}
+
+// The lengths of that wall, by which its loads are judged, and 0 for every other field. They stand one behind the other.
+pub fn lengths_at(file: &[u8], i: u32) -> Wall
+    ensures { λ r. ⌜ r ≡ lengthsOf (wallAt (now (file .entry)) i) ⌝ }
+{
+    let start = HEADER_BYTES + WALL_BYTES * (i as usize);
+    let mut lengths = [0u32; FIELDS];
+    for k in STEM_HEIGHT..COVER_IN_FRONT {
+        lengths[k] = bytes::u32_at(file, start + 4 * k);
+    }
+    lengths
 }
 
 // Where the first entry stands: behind as many walls as the header says.

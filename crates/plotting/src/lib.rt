@@ -15,7 +15,7 @@ pub fn drawing_text(drawn: Drawn, out: &mut [u8]) -> usize
         return 0;
     }
     let answer = drawn.answer;
-    if !answer::is_worked(answer) {
+    if !reply::is_worked(answer) {
         return printing::refusal_text(answer, out);
     }
     figures::put_drawn(drawn, out)

@@ -3,8 +3,7 @@ use rules::Range;
 ghost use mathlib.Core.Path.{_≡_};
 ghost use Prim.Native.Nat.{_<_, _^_};
 ghost use lib.ListN.{getD};
-ghost use Rattle.rules.specs.declared.Range.the-variants.{ABar};
-ghost use Rattle.rules.specs.JobFile.{baseLength, wallHeight, wallFields, ranges, bars, among, within, firstBadField, wallFits, reach, loadFits, firstUnfit};
+ghost use Rattle.rules.specs.JobFile.{Wall, baseLength, wallHeight, bars, among, within, firstBadField, wallFits, reach, loadFits, firstUnfit};
 
 // A wall is a number for each of its fields, in file order.
 pub const FIELDS: usize = 31;
@@ -171,30 +170,25 @@ fn is_bar(n: u32) -> bool
     false
 }
 
-fn is_within(wall: Wall, range: Range, n: u32) -> bool
-    ensures { λ r. ⌜ r ≡ within wall range n ⌝ }
+// Is a number within a range of any wall with its top at this height?
+fn is_within(top: u64, range: Range, n: u32) -> bool
+    ensures { λ r. ⌜ ((wall : Wall) → top ≡ wallHeight wall → r ≡ within wall range n) ⌝ }
 {
     match range {
         Range::Between(low, high) => low <= n && n <= high,
-        Range::UpToTop => n as u64 <= wall_height(wall),
+        Range::UpToTop => n as u64 <= top,
         Range::ABar => is_bar(n),
     }
-}
-
-// The range of the field at an index.
-fn range_at(i: usize) -> Range
-    requires { ⌜ i < wallFields ⌝ }
-    ensures { λ r. ⌜ r ≡ getD ranges i ABar ⌝ }
-{
-    RANGES[i]
 }
 
 // The number of the first field out of range, in field order; 0 where there is none.
 pub fn first_bad_field(wall: Wall) -> usize
     ensures { λ r. ⌜ r ≡ firstBadField wall ⌝ }
 {
+    let ranges = RANGES;
+    let top = wall_height(wall);
     for i in 0..FIELDS {
-        if !is_within(wall, range_at(i), wall[i]) {
+        if !is_within(top, ranges[i], wall[i]) {
             return i + 1;
         }
     }

@@ -1,5 +1,5 @@
 -- Document 01, "How strictly it is promised": no second answer fits. Here stands a theorem for each public entry, named after its crate and its name, over
--- all inputs and the relation that the entry ensures. Those of `job` and `components` that cite definitions of these crates stand there.
+-- all inputs and the relation that the entry ensures. Those of `job`, `components` and `office` that cite definitions of these crates stand there.
 use Prim.Native.Nat.{ℕ, _-_, _<_, _^_, max}
 use mathlib.Core.Path.{_≡_, sym, _∙_}
 use mathlib.Core.List.{List}
@@ -15,7 +15,7 @@ use Rattle.rules.specs.declared.Drawn.{Drawn}
 use Rattle.rules.specs.declared.Section.{Section}
 use Rattle.rules.specs.declared.WorkedWall.{WorkedWall}
 use Rattle.rules.specs.JobFile.{File, Wall, Load, Entry, edition, wallCount, firstWallOffset, loadCount, firstLoadOffset, wholeLength, entriesAt, wallAt, entryAt, loadOf, baseLength, wallHeight, firstBadField, wallFits, loadFits, firstUnfit}
-use Rattle.rules.specs.Answered.{isWorked, firstRefusal}
+use Rattle.rules.specs.Answered.{number, place, isWorked, firstRefusal}
 use Rattle.rules.specs.Forces.{forcesOf}
 use Rattle.rules.specs.Bearing.{isGiven, bearingOf}
 use Rattle.rules.specs.ToeAndStem.{stemActionOf, memberOf}
@@ -59,6 +59,17 @@ whole-excess a b = by-equation
 
 pub whole-above-zero : (n : ℤ) → Only (λ r. r ≡ aboveZero n)
 whole-above-zero n = by-equation
+
+-- ---- reply
+
+pub reply-number-of : (answer : Answer) → Only (λ r. r ≡ number answer)
+reply-number-of answer = by-equation
+
+pub reply-place-of : (answer : Answer) → Only (λ r. r ≡ place answer)
+reply-place-of answer = by-equation
+
+pub reply-is-worked : (answer : Answer) → Only (λ r. r ≡ isWorked answer)
+reply-is-worked answer = by-equation
 
 -- ---- record
 
@@ -116,9 +127,6 @@ pub job-load-of : (entry : Entry) → Only (λ r. r ≡ loadOf entry)
 job-load-of entry = by-equation
 
 -- ---- answer
-
-pub answer-is-worked : (answer : Answer) → Only (λ r. r ≡ isWorked answer)
-answer-is-worked answer = by-equation
 
 pub answer-first-refusal : (file : File) → Only (λ r. r ≡ firstRefusal file)
 answer-first-refusal file = by-equation

@@ -62,7 +62,7 @@ pub fn calculate(job: &[u8], out: &mut [i64]) -> Answer
     ensures { λ r. ⌜ Calculates (now (job .entry)) (now (out .entry)) r (now (out .exit)) ⌝ }
 {
     let answer = answer::first_refusal(job);
-    if !answer::is_worked(answer) {
+    if !reply::is_worked(answer) {
         return answer;
     }
     let walls = job::wall_count(job) as usize;
@@ -98,7 +98,7 @@ pub fn text(job: &[u8], out: &mut [u8]) -> usize
         return 0;
     }
     let answer = answer::first_refusal(job);
-    if !answer::is_worked(answer) {
+    if !reply::is_worked(answer) {
         return printing::refusal_text(answer, out);
     }
     put_texts(job, out)

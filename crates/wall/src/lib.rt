@@ -69,7 +69,7 @@ pub fn line(number: u32, wall: Wall, loads: Loads) -> WallLine
     let borne = bearing::blocks(wall, loads);
     let forces = borne.forces;
     let answer = forces.answer;
-    if !answer::is_worked(answer) {
+    if !reply::is_worked(answer) {
         return WallLine {
             answer: answer,
             numbers: [0i64; LINE],

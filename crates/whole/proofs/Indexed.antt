@@ -4,7 +4,7 @@ use mathlib.Core.List.{List, [], _∷_, _++_, map}
 use Prim.Native.Nat.{ℕ, zero, suc, _+_, _≤_, _<_}
 use native.Mathlib.Omega.{arith}
 use native.Mathlib.Numerals.{add-one}
-use lib.ListN.{length, getD, take, set, length-append, length-map, length-set, List·getD-append}
+use lib.ListN.{length, getD, take, set, length-append, length-map, length-set}
 use lib.Seq.{take-all, take-suc, take-suc-set, getD-append-add}
 
 module _ {A : Type 0} where
@@ -26,20 +26,6 @@ module _ {A : Type 0} where
 
     pub joined-length : length (first ++ map f xs ++ map g xs) ≡ m + n + n
     joined-length = rw (length-append (first ++ map f xs) (map g xs), front, length-map, there)
-
-    module _ (d : A) (e : B) (i : ℕ) where
-      pub at-first : i < m → getD (first ++ map f xs ++ map g xs) i d ≡ getD first i d
-      at-first h =
-          List·getD-append (first ++ map f xs) (map g xs) d i (omega (arith, front)) ∙ List·getD-append first (map f xs) d i (omega arith)
-
-      pub at-second : (j : ℕ) → i ≡ m + j → j < n → getD (first ++ map f xs ++ map g xs) i d ≡ f (getD xs j e)
-      at-second j k h =
-          List·getD-append (first ++ map f xs) (map g xs) d i (omega (arith, front))
-          ∙ past first (map f xs) d i j (omega arith)
-          ∙ mapped f xs j d e (omega arith)
-
-      pub at-third : (j : ℕ) → i ≡ m + n + j → j < n → getD (first ++ map f xs ++ map g xs) i d ≡ g (getD xs j e)
-      at-third j k h = past (first ++ map f xs) (map g xs) d i j (omega (arith, front)) ∙ mapped g xs j d e (omega arith)
 
   -- ---- filled
   -- an array of n agrees with a list up to an index

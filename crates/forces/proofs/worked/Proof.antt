@@ -68,7 +68,7 @@ lasting-is c =
     let R = toZ-ofZ w64 (s .totals-by .result .vertical) (search needs) in
     let resting = toZ-ofZ w64 (d .column-sum .result) (search needs) in
     let sum = sum-is Service _ _ (t .table-of .ensures) (t .before .sorts-of .ensures) (start .good .1 .0 .1 .0 .1) (start .pre) rests vertical refl in
-    cc (R, service-is s, resting, d .column-sum .ensures ∙ sum)
+    rw (R, service-is s, resting, d .column-sum .ensures ∙ sum)
 
 sub-held : tie.Need-sub-held
 sub-held c =
@@ -88,7 +88,7 @@ returns c =
     let s = d .before in
     let H = toZ-ofZ w64 (s .totals-by .result .horizontal) (search needs) in
     let lasting = toZ-ofZ w64 _ (sub-held (c .before .before)) ∙ lasting-is (c .before .before) in
-    cc (service-is s, factored-is d, c .held .ensures, lasting, H)
+    rw (c .held .ensures, lasting, H, service-is s, factored-is d)
 
 pub worked-spec : {M : Type 1} → statement M
 worked-spec =

@@ -1,17 +1,25 @@
--- `record::first_bad_field` meets its contract. The invariant: the first bad field is the first from the next one on.
+-- `record::first_bad_field` meets its contract. The invariant: the first bad field is the first from the next one on. The table that is gone through
+-- is that of the rules: the two are compared entry by entry.
 use mathlib.Core.Path.{_≡_, refl, sym, _∙_}
 use mathlib.Core.Bool.{true, false, cond}
-use Prim.Native.Nat.{ℕ, suc, _-_, _≤_, _<_}
+use mathlib.Core.List.{List, [], _∷_}
+use Prim.Native.Nat.{ℕ, zero, suc, _-_, _≤_, _<_}
 use native.Mathlib.Omega.{arith}
 use native.Mathlib.Numerals.{add-one}
 use borrow.Author.Tests.{not-true, not-false}
-use lib.ListN.{drop, getD}
+use lib.ListN.{length, drop, getD}
 use lib.Seq.{drop-cons}
 use Rattle.rules.specs.declared.Range.{Range}
 use Rattle.rules.specs.declared.Range.the-variants.{ABar}
 use Rattle.rules.specs.JobFile.{Wall, wallFields, ranges, within, firstOutside, firstBadField}
 use Rattle.record.proofs.first_bad_field.Statement.{statement}
 use Rattle.record.proofs.first_bad_field.Tie as tie
+
+-- within a list, what would be read behind its end doesn't matter
+inside : (xs : List Range) (i : ℕ) (d e : Range) → i < length xs → getD xs i d ≡ getD xs i e
+inside [] i d e h = absurd (omega arith)
+inside (x ∷ xs) zero d e h = refl
+inside (x ∷ xs) (suc i) d e h = inside xs i d e (omega arith)
 
 -- one field is judged, and then those behind it
 module _ (wall : Wall) (i : ℕ) (range : Range) (its : range ≡ getD ranges i ABar) (h : i < wallFields) where
@@ -28,20 +36,26 @@ module _ (wall : Wall) (i : ℕ) (range : Range) (its : range ≡ getD ranges i 
   goes-on e = next ∙ rw e
 
 abbrev Inv-loop : tie.InvT-loop
-Inv-loop wall i₀ i = (i ≤ wallFields) × (firstBadField wall ≡ firstOutside wall (suc i) (drop i ranges))
+Inv-loop wall its top i₀ i = (i ≤ wallFields) × (firstBadField wall ≡ firstOutside wall (suc i) (drop i ranges))
 
 abbrev μ-loop : tie.MeasureT-loop
-μ-loop wall i₀ i = wallFields - i
+μ-loop wall its top i₀ i = wallFields - i
+
+wall-height-requires : tie.Need-wall-height-requires Inv-loop μ-loop
+wall-height-requires c κs = tt
 
 loop-holds : tie.Need-loop-holds Inv-loop μ-loop
 unfolding firstBadField
 loop-holds c = (omega arith, refl)
 
-range-at-requires : tie.Need-range-at-requires Inv-loop μ-loop
-range-at-requires c κs = omega arith
-
 mul-is-within : tie.Need-mul-is-within Inv-loop μ-loop
 mul-is-within c = omega arith
+
+array-copy-out-is-within : tie.Need-array-copy-out-is-within Inv-loop μ-loop
+array-copy-out-is-within c = omega arith
+
+mul-is-within-2 : tie.Need-mul-is-within-2 Inv-loop μ-loop
+mul-is-within-2 c = omega arith
 
 array-read-is-within : tie.Need-array-read-is-within Inv-loop μ-loop
 array-read-is-within c = omega arith
@@ -54,9 +68,10 @@ add-result c = omega arith
 
 returns : tie.Need-returns Inv-loop μ-loop
 returns c =
-    let outside = sym (c .before .is-within .ensures) ∙ not-true _ (c .if1 .taken) in
-    let step = stops _ _ _ (c .before .before .range-at .ensures) (c .before .before .before .loop-test .taken) outside in
-    rw add-one (sym (c .before .before .before .before .loop .inv .1 ∙ step))
+    let asked = c .before .before .before in
+    let outside = sym (c .before .is-within .ensures _ (asked .before .before .wall-height .ensures)) ∙ not-true _ (c .if1 .taken) in
+    let step = stops _ _ _ (inside ranges _ _ _ (asked .loop-test .taken)) (asked .loop-test .taken) outside in
+    rw add-one (sym (asked .before .loop .inv .1 ∙ step))
 
 add-i : tie.Need-add-i Inv-loop μ-loop
 add-i c = omega arith
@@ -66,9 +81,10 @@ loop-less c = omega arith
 
 loop-again : tie.Need-loop-again Inv-loop μ-loop
 loop-again c =
-    let inside = sym (c .before .is-within .ensures) ∙ not-false _ (c .if1 .left) in
-    let step = goes-on _ _ _ (c .before .before .range-at .ensures) (c .before .before .before .loop-test .taken) inside in
-    (omega arith, rw add-one (c .before .before .before .before .loop .inv .1 ∙ step))
+    let asked = c .before .before .before in
+    let within-range = sym (c .before .is-within .ensures _ (asked .before .before .wall-height .ensures)) ∙ not-false _ (c .if1 .left) in
+    let step = goes-on _ _ _ (inside ranges _ _ _ (asked .loop-test .taken)) (asked .loop-test .taken) within-range in
+    (omega arith, rw add-one (asked .before .loop .inv .1 ∙ step))
 
 returns-2 : tie.Need-returns-2 Inv-loop μ-loop
 unfolding firstOutside
@@ -80,9 +96,11 @@ first-bad-field-spec =
     (tie.spec
     Inv-loop
     μ-loop
+    wall-height-requires
     loop-holds
-    range-at-requires
     mul-is-within
+    array-copy-out-is-within
+    mul-is-within-2
     array-read-is-within
     is-within-requires
     add-result

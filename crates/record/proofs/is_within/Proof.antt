@@ -11,9 +11,6 @@ enum-known-range c = search needs
 enum-told : tie.Need-enum-told
 enum-told c = search needs
 
-wall-height-requires : tie.Need-wall-height-requires
-wall-height-requires c κs = search needs
-
 enum-told-2 : tie.Need-enum-told-2
 enum-told-2 c = search needs
 
@@ -22,19 +19,19 @@ is-bar-requires c κs = search needs
 
 returns : tie.Need-returns
 unfolding within
-returns c = rw (c .before .before .range .given .1, le-leb _ _ (c .if1 .taken))
+returns c wall e = rw (c .before .before .range .given .1, le-leb _ _ (c .if1 .taken))
 
 returns-2 : tie.Need-returns-2
 unfolding within
-returns-2 c = rw (c .before .before .range .given .1, lt-leb _ _ (c .if1 .left))
+returns-2 c wall e = rw (c .before .before .range .given .1, lt-leb _ _ (c .if1 .left))
 
 returns-3 : tie.Need-returns-3
 unfolding within
-returns-3 c = rw (c .before .enum-told .given .1, c .wall-height .ensures)
+returns-3 c wall e = rw (c .enum-told .given .1, e)
 
 returns-4 : tie.Need-returns-4
 unfolding within
-returns-4 c = rw (c .before .enum-told2 .given .1) (c .is-bar .ensures)
+returns-4 c wall e = rw (c .before .enum-told2 .given .1) (c .is-bar .ensures)
 
 pub is-within-spec : {M : Type 1} → statement M
 is-within-spec =
@@ -42,7 +39,6 @@ is-within-spec =
     (tie.spec
     enum-known-range
     enum-told
-    wall-height-requires
     enum-told-2
     is-bar-requires
     returns

@@ -1,12 +1,13 @@
--- `answer::refusals::entry_fits` meets its contract. The walls are as many as the header says, and each is the one that is read.
+-- `answer::refusals::entry_fits` meets its contract. The walls are as many as the header says, and the lengths of each are those that are read.
 use Prim.Native.Nat.{_-_, _<_}
 use native.Mathlib.Omega.{arith}
 use borrow.Author.Needs.{needs}
 use borrow.Author.Tests.{le-leb, lt-leb}
 use lib.ListN.{getD}
-use Rattle.rules.specs.JobFile.{wallCount}
+use Rattle.rules.specs.JobFile.{wallCount, wallAt}
 use Rattle.rules.specs.Answered.{entryFits}
 use Rattle.rules.proofs.AcceptedFile.{walls-length, wall-at}
+use Rattle.job.proofs.Judged.{by-lengths}
 use Rattle.answer.proofs.refusals.entry_fits.Statement.{statement}
 use Rattle.answer.proofs.refusals.entry_fits.Tie as tie
 
@@ -27,8 +28,8 @@ returns-2 : tie.Need-returns-2
 unfolding entryFits
 returns-2 c = rw (walls-length, ← c .before .wall-count .ensures, le-leb _ _ (c .before .before .if1 .left), lt-leb _ _ (c .if2 .taken))
 
-wall-at-requires : tie.Need-wall-at-requires
-wall-at-requires c κs = search needs
+lengths-at-requires : tie.Need-lengths-at-requires
+lengths-at-requires c κs = search needs
 
 load-of-requires : tie.Need-load-of-requires
 load-of-requires c κs = search needs
@@ -48,7 +49,8 @@ returns-3 c =
       le-leb _ _ (c .before .before .before .before .before .if1 .left),
       le-leb _ _ (c .before .before .before .if2 .left),
       wall-at file (number - 1) there,
-      ← c .before .before .wall-at .ensures,
+      ← by-lengths (wallAt file (number - 1)),
+      ← c .before .before .lengths-at .ensures,
       ← c .before .load-of .ensures,
     )
     (c .load-fits .ensures)
@@ -62,7 +64,7 @@ entry-fits-spec =
     wall-count-requires
     cast-if2
     returns-2
-    wall-at-requires
+    lengths-at-requires
     load-of-requires
     load-fits-requires
     returns-3)

@@ -17,7 +17,7 @@ push-requires c κs = omega (arith, wall-within _ (c .before .pre .0))
 
 returns : tie.Need-returns
 unfolding moistPush
-returns c = cc
+returns c = rw (c .before .field .ensures .0) at (c .push .ensures)
 
 pub moist-push-spec : {M : Type 1} → statement M
 moist-push-spec = tie.close (tie.spec sub-above field-requires push-requires returns)

@@ -18,7 +18,7 @@ push-requires c κs = omega (arith, wall-within _ (c .before .pre .0))
 
 returns : tie.Need-returns
 unfolding moistPushBelow
-returns c = rw mul-assoc cc
+returns c = rw (c .before .field .ensures .0, ← mul-assoc) at (c .push .ensures)
 
 pub moist-push-below-spec : {M : Type 1} → statement M
 moist-push-below-spec = tie.close (tie.spec field-requires sub-push push-requires returns)

@@ -17,7 +17,7 @@ push-requires c κs = omega (arith, wall-within _ (c .before .pre .0))
 
 returns : tie.Need-returns
 unfolding saturatedPush
-returns c = cc
+returns c = rw (c .before .field .ensures .0) at (c .push .ensures)
 
 pub saturated-push-spec : {M : Type 1} → statement M
 saturated-push-spec = tie.close (tie.spec field-requires sub-buoyant push-requires returns)

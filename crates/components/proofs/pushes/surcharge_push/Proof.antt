@@ -21,7 +21,7 @@ push-of-requires c κs = search needs
 
 returns : tie.Need-returns
 unfolding surchargePush
-returns c = cc
+returns c = rw (c .before .field .ensures .0) at (c .push-of .ensures)
 
 pub surcharge-push-spec : {M : Type 1} → statement M
 surcharge-push-spec =

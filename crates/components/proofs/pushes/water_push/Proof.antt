@@ -18,7 +18,7 @@ push-of-requires c κs = search needs
 
 returns : tie.Need-returns
 unfolding waterPush
-returns c = cc
+returns c = c .push-of .ensures
 
 pub water-push-spec : {M : Type 1} → statement M
 water-push-spec = tie.close (tie.spec mul-push-of mul-push-of-2 push-of-requires returns)

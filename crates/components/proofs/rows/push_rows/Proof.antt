@@ -4,6 +4,7 @@ use borrow.Author.Needs.{needs}
 use Rattle.rules.specs.Forces.{pushRows}
 use Rattle.rules.proofs.Accepted.{wall-within}
 use Rattle.rules.proofs.Sizes.{Pushed, pushed}
+use Rattle.components.proofs.InPlace.{five}
 use Rattle.components.proofs.rows.push_rows.Statement.{statement}
 use Rattle.components.proofs.rows.push_rows.Tie as tie
 
@@ -45,7 +46,9 @@ across-requires-3 : tie.Need-across-requires-3
 across-requires-3 c κs = omega (arith, sizes (c .before .before .before .before .before))
 
 saturated-push-requires : tie.Need-saturated-push-requires
-saturated-push-requires c κs = search needs
+saturated-push-requires c κs =
+    let pre = c .before .before .before .before .before .before .pre in
+    (pre .0, record { coefficient = pre .1 .coefficient; height = omega arith; water = omega arith })
 
 mul-across-5 : tie.Need-mul-across-5
 mul-across-5 c = search needs
@@ -64,7 +67,18 @@ across-requires-5 c κs = omega (arith, sizes (c .before .before .before .before
 
 returns : tie.Need-returns
 unfolding pushRows
-returns c = cc
+returns c =
+    let water = c .before in
+    let saturated = water .before .before in
+    let below = saturated .before .before in
+    let moist = below .before .before in
+    let over = moist .before .before in
+    five
+    (rw (over .surcharge-push .ensures) at (moist .before .across .ensures))
+    (rw (moist .moist-push .ensures) at (below .before .across2 .ensures))
+    (rw (below .moist-push-below .ensures) at (saturated .before .across3 .ensures))
+    (rw (saturated .saturated-push .ensures) at (water .before .across4 .ensures))
+    (rw (water .water-push .ensures) at (c .across5 .ensures))
 
 pub push-rows-spec : {M : Type 1} → statement M
 push-rows-spec =

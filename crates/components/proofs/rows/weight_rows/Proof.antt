@@ -6,6 +6,7 @@ use Rattle.rules.specs.JobFile.{Wall, baseLength, wallFits}
 use Rattle.rules.specs.Forces.{weightRows}
 use Rattle.rules.proofs.Accepted.{longest, Lies, WallWithin, wall-within, base-length}
 use Rattle.rules.proofs.Sizes.{Weighed, weighed}
+use Rattle.components.proofs.InPlace.{five}
 use Rattle.components.proofs.rows.weight_rows.Statement.{statement}
 use Rattle.components.proofs.rows.weight_rows.Tie as tie
 
@@ -89,7 +90,21 @@ down-requires-5 c κs =
 
 returns : tie.Need-returns
 unfolding weightRows
-returns c = cc
+returns c =
+    let over = c .before in
+    let moist = over .before .before in
+    let saturated = moist .before .before in
+    let base = saturated .before .before in
+    let stem = base .before .before in
+    let thick = stem .before in
+    let length = thick .before .before .before .base-length .ensures in
+    let heel = thick .before .before .field .ensures .0 in
+    five
+    (rw (stem .stem-weight .ensures, thick .before .field2 .ensures .0, thick .field3 .ensures .0) at (base .before .down .ensures))
+    (rw (base .base-weight .ensures, length) at (saturated .before .down2 .ensures))
+    (rw (saturated .saturated-weight .ensures, length, heel) at (moist .before .down3 .ensures))
+    (rw (moist .moist-weight .ensures, length, heel) at (over .before .down4 .ensures))
+    (rw (over .surcharge-weight .ensures, length, heel) at (c .down5 .ensures))
 
 pub weight-rows-spec : {M : Type 1} → statement M
 weight-rows-spec =

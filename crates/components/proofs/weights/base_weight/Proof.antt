@@ -22,7 +22,9 @@ slab-weight-requires c κs = let w = wall-within _ (c .before .before .before .p
 
 returns : tie.Need-returns
 unfolding baseWeight
-returns c = cc
+returns c =
+    let d = c .before in
+    rw (d .field2 .ensures .0, d .before .field .ensures .0, d .before .before .base-length .ensures) at (c .slab-weight .ensures)
 
 pub base-weight-spec : {M : Type 1} → statement M
 base-weight-spec =

@@ -26,7 +26,11 @@ slab-weight-requires c κs = let w = wall-within _ (c .before .before .before .b
 
 returns : tie.Need-returns
 unfolding moistWeight
-returns c = cc
+returns c =
+    let d = c .before .before in
+    let e = d .before .before in
+    rw (c .before .field3 .ensures .0, d .field2 .ensures .0, d .before .excess .ensures, e .saturated-height .ensures, e .before .field .ensures .0) at
+    (c .slab-weight .ensures)
 
 pub moist-weight-spec : {M : Type 1} → statement M
 moist-weight-spec =

@@ -15,7 +15,7 @@ excess-requires c κs = search needs
 
 returns : tie.Need-returns
 unfolding saturatedHeight
-returns c = cc
+returns c = rw (c .before .field2 .ensures .0, c .before .before .field .ensures .0) at (c .excess .ensures)
 
 pub saturated-height-spec : {M : Type 1} → statement M
 saturated-height-spec =

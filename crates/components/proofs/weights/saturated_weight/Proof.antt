@@ -22,7 +22,9 @@ slab-weight-requires c κs = let w = wall-within _ (c .before .before .before .p
 
 returns : tie.Need-returns
 unfolding saturatedWeight
-returns c = cc
+returns c =
+    let d = c .before in
+    rw (d .field2 .ensures .0, d .before .saturated-height .ensures, d .before .before .field .ensures .0) at (c .slab-weight .ensures)
 
 pub saturated-weight-spec : {M : Type 1} → statement M
 saturated-weight-spec =

@@ -20,7 +20,9 @@ slab-weight-requires c κs = let w = wall-within _ (c .before .before .before .p
 
 returns : tie.Need-returns
 unfolding stemWeight
-returns c = cc
+returns c =
+    let d = c .before in
+    rw (d .field3 .ensures .0, d .before .field2 .ensures .0, d .before .before .field .ensures .0) at (c .slab-weight .ensures)
 
 pub stem-weight-spec : {M : Type 1} → statement M
 stem-weight-spec =

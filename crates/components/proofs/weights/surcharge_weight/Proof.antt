@@ -21,7 +21,7 @@ rounded-nearest-requires c κs = search needs
 
 returns : tie.Need-returns
 unfolding surchargeWeight
-returns c = cc
+returns c = rw (c .before .field2 .ensures .0, c .before .before .field .ensures .0) at (c .rounded-nearest .ensures)
 
 pub surcharge-weight-spec : {M : Type 1} → statement M
 surcharge-weight-spec =

@@ -31,7 +31,7 @@ rounded-down-requires c κs = search needs
 
 returns : tie.Need-returns
 unfolding frictionUnder
-returns c = cc (lasting-is (c .before))
+returns c = rw (lasting-is (c .before), c .before .before .field .ensures .0) at (c .rounded-down .ensures)
 
 pub friction-under-spec : {M : Type 1} → statement M
 friction-under-spec =

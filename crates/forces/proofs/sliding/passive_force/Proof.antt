@@ -42,7 +42,17 @@ rounded-down-requires c κs = search needs
 
 returns : tie.Need-returns
 unfolding passive passiveDepth
-returns c = cc
+returns c =
+    let d = c .before .before in
+    let e = d .before .before in
+    rw (
+      c .before .field5 .ensures .0,
+      d .field4 .ensures .0,
+      d .before .excess .ensures,
+      e .field3 .ensures .0,
+      e .before .field2 .ensures .0,
+      e .before .before .field .ensures .0,
+    ) at (c .rounded-down .ensures)
 
 pub passive-force-spec : {M : Type 1} → statement M
 passive-force-spec =

@@ -1,31 +1,53 @@
--- `forces::sums::sorts_of` meets its contract. The invariant: the sorts passed are stored.
+-- `forces::sums::sorts_of` meets its contract. The invariant: the sorts of the loads passed are stored, their dead and their live parts'.
 use mathlib.Core.Path.{refl}
+use mathlib.Core.List.{[], map}
 use Prim.Native.Nat.{_-_}
 use native.Mathlib.Omega.{arith}
-use Rattle.components.specs.Tables.{components}
-use Rattle.forces.specs.Sorts.{sortsOf, sortAt}
-use Rattle.whole.proofs.Indexed.{Filled, none-filled, one-more, all-filled}
-use Rattle.forces.proofs.Summed.{sorts-length}
+use Rattle.rules.specs.JobFile.{mostLoadsOnWall}
+use Rattle.components.specs.Tables.{components, ownRows}
+use Rattle.components.proofs.Runs.{TwoRuns, none-made, next-made, all-stored}
+use Rattle.forces.specs.Sorts.{firstSorts, byWay, sortsOf}
 use Rattle.forces.proofs.sums.sorts_of.Statement.{statement}
 use Rattle.forces.proofs.sums.sorts_of.Tie as tie
 
 abbrev Inv-loop : tie.InvT-loop
-Inv-loop loads sorts₀ i₀ sorts i = Filled (sortsOf loads) components i sorts
+Inv-loop loads sorts₀ i₀ sorts i = TwoRuns firstSorts (map (byWay 0 2) loads) (map (byWay 1 3) loads) components ownRows mostLoadsOnWall i sorts
 
 abbrev μ-loop : tie.MeasureT-loop
-μ-loop loads sorts₀ i₀ sorts i = components - i
+μ-loop loads sorts₀ i₀ sorts i = mostLoadsOnWall - i
 
 loop-holds : tie.Need-loop-holds Inv-loop μ-loop
-loop-holds c = none-filled (sorts-length (c .args .loads) (c .good .0 .1 .0 .1)) refl
+loop-holds c = none-made (byWay 0 2) (byWay 1 3) (c .args .t1) (c .good .0 .1 .0 .1) (omega arith) refl
 
-sort-at-requires : tie.Need-sort-at-requires Inv-loop μ-loop
-sort-at-requires c κs = omega arith
+mul-load : tie.Need-mul-load Inv-loop μ-loop
+mul-load c = omega arith
+
+array-copy-out-load : tie.Need-array-copy-out-load Inv-loop μ-loop
+array-copy-out-load c = omega arith
+
+sort-by-way-requires : tie.Need-sort-by-way-requires Inv-loop μ-loop
+sort-by-way-requires c κs = tt
+
+add-sorts : tie.Need-add-sorts Inv-loop μ-loop
+add-sorts c = omega arith
 
 mul-sorts : tie.Need-mul-sorts Inv-loop μ-loop
 mul-sorts c = omega arith
 
 array-write-sorts : tie.Need-array-write-sorts Inv-loop μ-loop
 array-write-sorts c = omega arith
+
+sort-by-way-requires-2 : tie.Need-sort-by-way-requires-2 Inv-loop μ-loop
+sort-by-way-requires-2 c κs = tt
+
+add-sorts-2 : tie.Need-add-sorts-2 Inv-loop μ-loop
+add-sorts-2 c = omega arith
+
+mul-sorts-2 : tie.Need-mul-sorts-2 Inv-loop μ-loop
+mul-sorts-2 c = omega arith
+
+array-write-sorts-2 : tie.Need-array-write-sorts-2 Inv-loop μ-loop
+array-write-sorts-2 c = omega arith
 
 add-i : tie.Need-add-i Inv-loop μ-loop
 add-i c = omega arith
@@ -34,11 +56,14 @@ loop-less : tie.Need-loop-less Inv-loop μ-loop
 loop-less c = omega arith
 
 loop-again : tie.Need-loop-again Inv-loop μ-loop
-unfolding sortAt
-loop-again c = one-more 0 (c .before .before .loop .inv) (omega arith) (c .sort-at .ensures)
+loop-again c =
+    let now = c .before .before .before .before in
+    next-made (byWay 0 2) (byWay 1 3) (now .before .args .t1) (now .loop .inv) 0 [] _ _ _ _ (omega arith) refl refl (c .before .sort-by-way .ensures)
+    (c .sort-by-way2 .ensures)
 
 returns : tie.Need-returns Inv-loop μ-loop
-returns c = all-filled (c .before .loop .inv) (omega arith)
+unfolding sortsOf
+returns c = all-stored (c .before .loop .inv) (omega arith) refl
 
 pub sorts-of-spec : {M : Type 1} → statement M
 sorts-of-spec =
@@ -47,9 +72,16 @@ sorts-of-spec =
     Inv-loop
     μ-loop
     loop-holds
-    sort-at-requires
+    mul-load
+    array-copy-out-load
+    sort-by-way-requires
+    add-sorts
     mul-sorts
     array-write-sorts
+    sort-by-way-requires-2
+    add-sorts-2
+    mul-sorts-2
+    array-write-sorts-2
     add-i
     loop-less
     loop-again

@@ -43,28 +43,36 @@ place-next answer = record { parts = refl }
 as-is : {r n : ℕ} → r < 2 ^ 32 → r ≡ n → toZ w64 r ≡ pos n
 as-is {r} h e = toZ-pos w64 r (omega arith) ∙ ap pos e
 
+number-of-requires : tie.Need-number-of-requires
+number-of-requires c κs = search needs
+
+cast-number : tie.Need-cast-number
+cast-number c = search needs
+
+place-of-requires : tie.Need-place-of-requires
+place-of-requires c κs = search needs
+
+cast-place : tie.Need-cast-place
+cast-place c = search needs
+
 slice-aggregate-put-word : tie.Need-slice-aggregate-put-word
 slice-aggregate-put-word c = search needs
 
 put-word-requires : tie.Need-put-word-requires
 put-word-requires c κs = search needs
 
-number-of-requires : tie.Need-number-of-requires
-number-of-requires c κs = search needs
-
-cast-put-spaced : tie.Need-cast-put-spaced
-cast-put-spaced c = search needs
+abbrev start : tie.After-put-word → tie.Start
+start c = c .before .before .before .before .before .before
 
 -- the word is put
-worded : (c : tie.After-put-word) → let start = c .before .before .before .before in
-    Begun (refusalText (start .args .answer)) (behindWord (start .args .answer)) (start .args .out .now) (c .put-word .result) (c .put-word .last .1 .0)
+worded : (c : tie.After-put-word) → let a = start c .args in
+    Begun (refusalText (a .answer)) (behindWord (a .answer)) (a .out .now) (c .put-word .result) (c .put-word .last .1 .0)
 worded c =
-    let start = c .before .before .before .before in
-    let word = word-first (start .args .answer) in
-    first-put (start .pre) word (put-whole _ _ (omega (arith, start .pre, split-length word)) (c .put-word .ensures))
+    let word = word-first (start c .args .answer) in
+    first-put (start c .pre) word (put-whole _ _ (omega (arith, start c .pre, split-length word)) (c .put-word .ensures))
 
 sub-put-spaced : tie.Need-sub-put-spaced
-sub-put-spaced c = omega (arith, used (worded (c .before .before .before)))
+sub-put-spaced c = omega (arith, used (worded (c .before .before)))
 
 part-put-spaced-start : tie.Need-part-put-spaced-start
 part-put-spaced-start c = sub-put-spaced c
@@ -72,29 +80,24 @@ part-put-spaced-start c = sub-put-spaced c
 part-put-spaced-end : tie.Need-part-put-spaced-end
 part-put-spaced-end c = search needs
 
+-- the number that is put next
+the-number : (c : tie.After-put-word) → let of = c .before .before .before .before .number-of in toZ w64 (of .result) ≡ pos (number (start c .args .answer))
+the-number c = let of = c .before .before .before .before .number-of in as-is (of .ok) (of .ensures)
+
 put-spaced-requires : tie.Need-put-spaced-requires
-put-spaced-requires c κs =
-    rw (as-is (c .before .number-of .ok) (c .before .number-of .ensures)) (next-room (worded (c .before .before .before .before)) (number-next _))
+put-spaced-requires c κs = let word = c .before .before .before in rw (the-number word) (next-room (worded word) (number-next _))
 
 -- the number is put
-numbered : (c : tie.After-put-spaced) → let word = c .before .before .before .before .before in let start = word .before .before .before .before in
-    Begun (refusalText (start .args .answer)) (behindNumber (start .args .answer)) (start .args .out .now)
+numbered : (c : tie.After-put-spaced) → let word = c .before .before .before .before in let a = start word .args in
+    Begun (refusalText (a .answer)) (behindNumber (a .answer)) (a .out .now)
     (word .put-word .result + c .put-spaced .result) (withBack (word .put-word .result) (word .put-word .last .1 .0) (c .put-spaced .last .1 .0))
-numbered c =
-    let named = c .before .before .number-of in
-    next-put (worded (c .before .before .before .before .before)) (number-next _) (rw (as-is (named .ok) (named .ensures)) at (c .put-spaced .ensures))
+numbered c = let word = c .before .before .before .before in next-put (worded word) (number-next _) (rw (the-number word) at (c .put-spaced .ensures))
 
-add-number : tie.Need-add-number
-add-number c = let number = used (numbered (c .before .before)) in omega arith
-
-place-of-requires : tie.Need-place-of-requires
-place-of-requires c κs = search needs
-
-cast-put-spaced-2 : tie.Need-cast-put-spaced-2
-cast-put-spaced-2 c = search needs
+add-two : tie.Need-add-two
+add-two c = let number = used (numbered (c .before .before)) in omega arith
 
 sub-put-spaced-2 : tie.Need-sub-put-spaced-2
-sub-put-spaced-2 c = omega (arith, used (numbered (c .before .before .before)))
+sub-put-spaced-2 c = omega (arith, used (numbered (c .before .before)))
 
 part-put-spaced-start-2 : tie.Need-part-put-spaced-start-2
 part-put-spaced-start-2 c = sub-put-spaced-2 c
@@ -102,23 +105,27 @@ part-put-spaced-start-2 c = sub-put-spaced-2 c
 part-put-spaced-end-2 : tie.Need-part-put-spaced-end-2
 part-put-spaced-end-2 c = search needs
 
+-- and the place behind it
+the-place : (c : tie.After-put-word) → let of = c .before .before .before .place-of in toZ w64 (of .result) ≡ pos (place (start c .args .answer))
+the-place c = let of = c .before .before .before .place-of in as-is (of .ok) (of .ensures)
+
 put-spaced-requires-2 : tie.Need-put-spaced-requires-2
 put-spaced-requires-2 c κs =
-    rw (as-is (c .before .place-of .ok) (c .before .place-of .ensures)) (next-room (numbered (c .before .before .before .before)) (place-next _))
+    let two = c .before .before .before in
+    rw (the-place (two .before .before .before .before)) (next-room (numbered two) (place-next _))
 
 -- the place is put
-placed : (c : tie.After-put-spaced2) → let number = c .before .before .before .before .before in let word = number .before .before .before .before .before in
-    let start = word .before .before .before .before in
-    Begun (refusalText (start .args .answer)) (code "\n" ∷ []) (start .args .out .now)
-    (word .put-word .result + number .put-spaced .result + c .put-spaced2 .result)
-    (withBack (word .put-word .result + number .put-spaced .result)
-    (withBack (word .put-word .result) (word .put-word .last .1 .0) (number .put-spaced .last .1 .0)) (c .put-spaced2 .last .1 .0))
+placed : (c : tie.After-put-spaced2) → let two = c .before .before .before .before in let word = two .before .before .before .before in let a = start word .args in
+    Begun (refusalText (a .answer)) (code "\n" ∷ []) (a .out .now)
+    (word .put-word .result + two .put-spaced .result + c .put-spaced2 .result)
+    (withBack (word .put-word .result + two .put-spaced .result)
+    (withBack (word .put-word .result) (word .put-word .last .1 .0) (two .put-spaced .last .1 .0)) (c .put-spaced2 .last .1 .0))
 placed c =
-    let there = c .before .before .place-of in
-    next-put (numbered (c .before .before .before .before .before)) (place-next _) (rw (as-is (there .ok) (there .ensures)) at (c .put-spaced2 .ensures))
+    let two = c .before .before .before .before in
+    next-put (numbered two) (place-next _) (rw (the-place (two .before .before .before .before)) at (c .put-spaced2 .ensures))
 
-add-place : tie.Need-add-place
-add-place c = omega (arith, used (placed (c .before .before)))
+add-all : tie.Need-add-all
+add-all c = omega (arith, used (placed (c .before .before)))
 
 slice-write-out : tie.Need-slice-write-out
 slice-write-out c = omega (arith, used (placed (c .before .before)), byte-room (placed (c .before .before)) _ refl)
@@ -136,22 +143,22 @@ pub put-refusal-spec : {M : Type 1} → statement M
 put-refusal-spec =
     tie.close
     (tie.spec
+    number-of-requires
+    cast-number
+    place-of-requires
+    cast-place
     slice-aggregate-put-word
     put-word-requires
-    number-of-requires
-    cast-put-spaced
     sub-put-spaced
     part-put-spaced-start
     part-put-spaced-end
     put-spaced-requires
-    add-number
-    place-of-requires
-    cast-put-spaced-2
+    add-two
     sub-put-spaced-2
     part-put-spaced-start-2
     part-put-spaced-end-2
     put-spaced-requires-2
-    add-place
+    add-all
     slice-write-out
     add-result
     same-length

@@ -1,0 +1,97 @@
+/*
+ * Prints each wall's verdict, the sheet, and the drawing of wall 1 of a job file, or why it is refused:
+ *
+ *     cc -std=c99 -Wall -Wextra -pedantic -o example c/example.c target/staticlib/liboffice.a
+ *     ./example jobs/case-a.job
+ */
+#include <stdio.h>
+
+#include "office.h"
+
+/* No job is longer than this, and a file that is gets the same answer cut short here as whole. */
+static uint8_t job[65536];
+static int64_t numbers[OFFICE_LINE_NUMBERS * OFFICE_MOST_WALLS];
+static uint8_t text[OFFICE_TEXT_ROOM];
+static double figures[OFFICE_FIGURE_ROOM];
+
+static const char *const checks[8] = {
+    "slides", "overturns", "a pressure is over the allowable", "no service block", "no factored block", "toe steel", "stem steel", "shear"};
+
+static const char *reason(uint32_t refusal)
+{
+    switch (refusal) {
+    case OFFICE_TOO_SHORT: return "the file is too short for a header";
+    case OFFICE_WRONG_EDITION: return "wrong edition";
+    case OFFICE_COUNT_OUT_OF_RANGE: return "the number of walls or of loads is out of range";
+    case OFFICE_WRONG_OFFSET_OR_LENGTH: return "an offset or the length is wrong";
+    case OFFICE_WALL_OUT_OF_RANGE: return "a field is out of range in wall";
+    case OFFICE_LOAD_OUT_OF_RANGE: return "a field is out of range, or the wall isn't there, in load";
+    case OFFICE_NINTH_LOAD: return "a wall has a ninth load, load";
+    case OFFICE_BUFFER_TOO_SHORT: return "the buffer is too short";
+    case OFFICE_NO_SUCH_WALL: return "there is no wall";
+    default: return "worked";
+    }
+}
+
+static int refused(uint64_t answer)
+{
+    printf("refused, %u: %s", (unsigned)office_answer_number(answer), reason(office_answer_number(answer)));
+    if (office_answer_place(answer) != 0)
+        printf(" %lu", (unsigned long)office_answer_place(answer));
+    printf("\n");
+    return 1;
+}
+
+static void print_verdict(const int64_t *line)
+{
+    const char *before = " fails: ";
+    printf("wall %d", (int)line[OFFICE_LINE_WALL]);
+    for (int i = 0; i < 8; i++)
+        if (line[OFFICE_LINE_FAILURES] >> i & 1) {
+            printf("%s%s", before, checks[i]);
+            before = ", ";
+        }
+    printf("%s\n", line[OFFICE_LINE_FAILURES] == 0 ? " passes" : "");
+}
+
+static void print_drawing(uint32_t shape)
+{
+    printf("wall 1: R %.3f kN, %.1f mm from the toe; H %.3f kN; ", figures[OFFICE_FIGURE_R], figures[OFFICE_FIGURE_DISTANCE], figures[OFFICE_FIGURE_H]);
+    if (shape == OFFICE_NOTHING)
+        printf("no block\n");
+    else if (shape == OFFICE_WHOLE)
+        printf("the whole base bears, toe %.3f and heel %.3f kN/m2\n", figures[OFFICE_FIGURE_ONE], figures[OFFICE_FIGURE_TWO]);
+    else
+        printf("a triangle from the %s, peak %.3f kN/m2, %.1f mm long\n", shape == OFFICE_TOE_TRIANGLE ? "toe" : "heel", figures[OFFICE_FIGURE_ONE], figures[OFFICE_FIGURE_TWO]);
+}
+
+int main(int count, char **words)
+{
+    FILE *file = count == 2 ? fopen(words[1], "rb") : NULL;
+    if (file == NULL) {
+        fprintf(stderr, "example: give the name of a job file that can be read\n");
+        return 2;
+    }
+    size_t length = fread(job, 1, sizeof job, file);
+    int unread = ferror(file);
+    fclose(file);
+    if (unread) {
+        fprintf(stderr, "example: %s can't be read\n", words[1]);
+        return 2;
+    }
+
+    uint64_t answer = office_calculate(job, length, numbers, OFFICE_LINE_NUMBERS * OFFICE_MOST_WALLS);
+    if (office_answer_number(answer) != OFFICE_WORKED)
+        return refused(answer);
+    int walls = job[2] + 256 * job[3]; /* a job that is worked has its number of walls here */
+    for (int i = 0; i < walls; i++)
+        print_verdict(numbers + OFFICE_LINE_NUMBERS * i);
+
+    fwrite(text, 1, office_text(job, length, text, sizeof text), stdout);
+
+    answer = office_drawing(job, length, 1, figures, OFFICE_FIGURE_ROOM);
+    if (office_answer_number(answer) != OFFICE_WORKED)
+        return refused(answer);
+    print_drawing(office_answer_shape(answer));
+    return 0;
+}

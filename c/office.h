@@ -1,0 +1,141 @@
+/*
+ * The wall sheet for C and C++: the numbers of a job's sheet, its printed text, and the drawing of one of its walls.
+ *
+ * The functions stand in target/staticlib/liboffice.a, which `rt staticlib office` makes for x86-64 Linux. They are written in Rattle
+ * (crates/office), and each is proved to answer what its comment says for every job and every buffer, and to return. They keep nothing
+ * from one call to the next, allocate nothing, and call nothing but memcpy and memset, so threads may call them at the same time.
+ *
+ * The proofs can't see a caller in C. What each caller owes:
+ *
+ *   - A pointer leads to as many elements as the length behind it says, aligned as their type is, and these are at most PTRDIFF_MAX bytes
+ *     in all. Where the length is 0 nothing is read or written, and the pointer may be NULL.
+ *   - The job's bytes and the elements of the buffer have values before the call; any values will do.
+ *   - Job and buffer don't overlap. Until the call returns nothing else writes to the job, and nothing else reads or writes the buffer.
+ *
+ * Nothing is owed of what the job holds. Any bytes have an answer: a job that can't be worked is refused.
+ */
+#ifndef OFFICE_H
+#define OFFICE_H
+
+#include <stddef.h>
+#include <stdint.h>
+
+#ifdef __cplusplus
+extern "C" {
+#endif
+
+/* ---- how much is lent */
+
+enum {
+    OFFICE_LINE_NUMBERS = 16, /* numbers on a wall's line */
+    OFFICE_MOST_WALLS = 64,   /* walls that a job may have; 16 x 64 numbers are room for any sheet */
+    OFFICE_TEXT_ROOM = 21504, /* bytes, room for the text of any job */
+    OFFICE_FIGURE_ROOM = 5    /* doubles, room for the figures of any drawing */
+};
+
+/* ---- what is answered, packed in one number: the place in the low 32 bits, the refusal's number in the next 16, the shape above */
+
+static inline uint32_t office_answer_place(uint64_t answer) { return (uint32_t)(answer & 0xffffffffu); }
+static inline uint32_t office_answer_number(uint64_t answer) { return (uint32_t)(answer >> 32 & 0xffffu); }
+static inline uint32_t office_answer_shape(uint64_t answer) { return (uint32_t)(answer >> 48); }
+
+/*
+ * A refusal's number. Of several faults the one that stands higher here is named, 8 after all others; among walls the first, and then among
+ * loads the first, whether for 6 or 7; a load with both faults has 6.
+ */
+enum office_refusal {
+    OFFICE_WORKED = 0,                 /* no refusal */
+    OFFICE_TOO_SHORT = 1,              /* the job has fewer than 12 bytes */
+    OFFICE_WRONG_EDITION = 2,          /* its edition isn't 1 */
+    OFFICE_COUNT_OUT_OF_RANGE = 3,     /* it has no wall or more than 64, or more than 512 loads */
+    OFFICE_WRONG_OFFSET_OR_LENGTH = 4, /* the offsets and the length don't follow from the counts, or the length isn't that of the job */
+    OFFICE_WALL_OUT_OF_RANGE = 5,      /* a wall has a field out of range; the place is the wall's number */
+    OFFICE_LOAD_OUT_OF_RANGE = 6,      /* a load has one, or is on no wall of the job; the place is the load's number */
+    OFFICE_NINTH_LOAD = 7,             /* a load is the ninth on its wall; the place is the load's number */
+    OFFICE_BUFFER_TOO_SHORT = 8,       /* the lent buffer hasn't the room */
+    OFFICE_NO_SUCH_WALL = 18           /* the job has no wall of the number asked for, which is the place */
+};
+/* Walls and loads are numbered from 1, in the job's order. Where no place is named it is 0. */
+
+/* ---- the sheet in numbers */
+
+/* Where each number of a line stands. Forces, moments and steel are per metre run. */
+enum office_line {
+    OFFICE_LINE_WALL,         /* the wall's number */
+    OFFICE_LINE_FAILURES,     /* the checks that it fails, a bit each */
+    OFFICE_LINE_R,            /* vertical force, N */
+    OFFICE_LINE_H,            /* horizontal force, N */
+    OFFICE_LINE_PROPPING,     /* propping force, N */
+    OFFICE_LINE_M6,           /* moment about the toe, in sixths of a N mm; it may be negative */
+    OFFICE_LINE_SERVICE_TOE,  /* pressure at the toe, N/m2 */
+    OFFICE_LINE_SERVICE_HEEL, /* and at the heel */
+    OFFICE_LINE_FACTORED_TOE, /* the same two, factored */
+    OFFICE_LINE_FACTORED_HEEL,
+    OFFICE_LINE_TOE_SHEAR,    /* N */
+    OFFICE_LINE_TOE_MOMENT,   /* N mm */
+    OFFICE_LINE_TOE_STEEL,    /* area required, mm2 */
+    OFFICE_LINE_STEM_SHEAR,   /* N */
+    OFFICE_LINE_STEM_MOMENT,  /* N mm */
+    OFFICE_LINE_STEM_STEEL    /* area required, mm2 */
+};
+
+/* The bits of OFFICE_LINE_FAILURES. No other bit is ever set, and a wall with none passes. */
+enum office_failure {
+    OFFICE_SLIDES = 1,             /* passive force and friction don't hold an unpropped wall */
+    OFFICE_OVERTURNS = 2,          /* the restoring moment is less than the overturning one */
+    OFFICE_OVER_ALLOWABLE = 4,     /* a service pressure is over the allowable */
+    OFFICE_NO_SERVICE_BLOCK = 8,   /* no bearing block is given in service */
+    OFFICE_NO_FACTORED_BLOCK = 16, /* none is given for the factored totals */
+    OFFICE_TOE_STEEL_FAILS = 32,
+    OFFICE_STEM_STEEL_FAILS = 64,
+    OFFICE_SHEAR_FAILS = 128       /* of toe or stem */
+};
+
+/*
+ * The sheet of a job. Where it is worked the answer is 0, and the buffer holds 16 numbers for each wall, in the job's order, and behind
+ * them what it held before. A refusal is 1 to 8, with its place, and the buffer is as it was; it is 8 where the buffer has room for fewer
+ * than 16 numbers for each wall. The shape is 0.
+ */
+uint64_t office_calculate(const uint8_t *job, size_t job_length, int64_t *out, size_t out_length);
+
+/* ---- the sheet as it is printed */
+
+/*
+ * The text of a job, in ASCII: a line for each wall, or one that says `refused` with the refusal's number, 1 to 7, and its place. It is
+ * put at the start of the buffer, with no 0 behind it, and what stands behind it is as it was. The answer is how many bytes it took. A
+ * buffer with fewer than 21504 bytes is left as it was, and the answer is 0, whatever the job.
+ */
+size_t office_text(const uint8_t *job, size_t job_length, uint8_t *out, size_t out_length);
+
+/* ---- the drawing of a wall */
+
+/* How the base bears in service, and the figures that the shape has of its own. */
+enum office_shape {
+    OFFICE_NOTHING = 0,      /* no block: none */
+    OFFICE_WHOLE = 1,        /* on all of the base: the pressures at toe and heel, kN/m2 */
+    OFFICE_TOE_TRIANGLE = 2, /* a triangle from the toe: its peak, kN/m2, and the length in contact, mm */
+    OFFICE_HEEL_TRIANGLE = 3 /* a triangle from the heel: the same two */
+};
+
+/* Where each figure stands. */
+enum office_figure {
+    OFFICE_FIGURE_R,        /* R, kN */
+    OFFICE_FIGURE_H,        /* H, kN */
+    OFFICE_FIGURE_DISTANCE, /* how far from the toe R acts, mm */
+    OFFICE_FIGURE_ONE,      /* the shape's own two */
+    OFFICE_FIGURE_TWO
+};
+
+/*
+ * The drawing of a wall, by its number in the job, from 1. Where it is drawn the answer's refusal is 0 and its shape is the wall's, and the
+ * buffer holds five figures, or three where the shape is nothing, and behind them what it held before. Each is a quotient of two whole
+ * numbers, rounded once, and none is a NaN. A refusal is 1 to 7, 18, or 8 where the buffer has room for fewer than five doubles, whatever
+ * the shape; then the shape is 0, and the buffer is as it was.
+ */
+uint64_t office_drawing(const uint8_t *job, size_t job_length, uint32_t wall, double *out, size_t out_length);
+
+#ifdef __cplusplus
+}
+#endif
+
+#endif

@@ -1,0 +1,111 @@
+// The sheet for C: the three entries of `sheet`, with one number for what each answers. Any bytes are a job, and any buffer may be lent.
+use rules::Answer;
+use rules::Drawn;
+use rules::Shape;
+ghost use mathlib.Core.List.{[], _∷_};
+ghost use mathlib.Core.Path.{_≡_};
+ghost use Prim.Native.Nat.{_≤_};
+ghost use lib.ListN.{length};
+ghost use Rattle.rules.specs.SheetLine.{Prints, onto};
+ghost use Rattle.rules.specs.Drawing.{shapeFigures, figures};
+ghost use Rattle.office.specs.Packed.{shapeNumber, Packs, figureRoom, CalculatesPacked, DrawsPacked};
+
+// A refusal's number stands above the 32 bits of its place.
+const NUMBER: u64 = 1 << 32;
+
+// A shape's stands above the 16 bits of that.
+const SHAPE: u64 = 1 << 48;
+
+// Room for the figures of any drawing.
+const FIGURE_ROOM: usize = 5;
+
+// A shape's number.
+fn shape_number(shape: Shape) -> u64
+    ensures { λ r. ⌜ r ≡ shapeNumber shape ⌝ }
+{
+    match shape {
+        Shape::Nothing => 0,
+        Shape::Whole(_, _) => 1,
+        Shape::ToeTriangle(_, _) => 2,
+        Shape::HeelTriangle(_, _) => 3,
+    }
+}
+
+// An answer and a shape in one number.
+fn packed(answer: Answer, shape: Shape) -> u64
+    ensures { λ r. ⌜ Packs answer shape r ⌝ }
+{
+    let place = reply::place_of(answer) as u64;
+    let number = reply::number_of(answer) as u64;
+    place + NUMBER * number + SHAPE * shape_number(shape)
+}
+
+// Two figures, at the start of what is lent.
+fn put_pair(x: f64, y: f64, out: &mut [f64])
+    requires { ⌜ 2 ≤ length (now out) ⌝ }
+    ensures { λ _. ⌜ now (out .exit) ≡ onto (x ∷ y ∷ []) (now (out .entry)) ⌝ }
+{
+    out[0] = x;
+    out[1] = y;
+}
+
+// A shape's own two, where it has them.
+fn put_shape(shape: Shape, out: &mut [f64])
+    requires { ⌜ 2 ≤ length (now out) ⌝ }
+    ensures { λ _. ⌜ now (out .exit) ≡ onto (shapeFigures shape) (now (out .entry)) ⌝ }
+{
+    match shape {
+        Shape::Whole(toe, heel) => put_pair(toe, heel, out),
+        Shape::ToeTriangle(peak, contact) => put_pair(peak, contact, out),
+        Shape::HeelTriangle(peak, contact) => put_pair(peak, contact, out),
+        Shape::Nothing => {}
+    }
+}
+
+// The figures of a drawing: R and H, how far from the toe R acts, and the shape's own.
+fn put_figures(drawn: Drawn, out: &mut [f64])
+    requires { ⌜ figureRoom ≤ length (now out) ⌝ }
+    ensures { λ _. ⌜ now (out .exit) ≡ onto (figures drawn) (now (out .entry)) ⌝ }
+{
+    let drawing = drawn.drawing;
+    let shape = drawn.shape;
+    put_pair(drawing.vertical, drawing.horizontal, out);
+    out[2] = drawing.distance;
+    put_shape(shape, &mut out[3..]);
+}
+
+// The sheet of a job in numbers: sixteen for each wall, and whatever stands behind them as it was; or a refusal, and the buffer as it was.
+#[no_mangle]
+pub extern "C" fn office_calculate(job: &[u8], out: &mut [i64]) -> u64
+    ensures { λ r. ⌜ CalculatesPacked (now (job .entry)) (now (out .entry)) r (now (out .exit)) ⌝ }
+{
+    packed(sheet::calculate(job, out), Shape::Nothing)
+}
+
+// The sheet of a job as it is printed, at the start of the buffer, and how many bytes it took; a refusal is printed too. Without room for the text of
+// any job nothing is put, and 0 bytes are used.
+#[no_mangle]
+pub extern "C" fn office_text(job: &[u8], out: &mut [u8]) -> usize
+    ensures { λ r. ⌜ Prints (now (job .entry)) (now (out .entry)) r (now (out .exit)) ⌝ }
+{
+    sheet::text(job, out)
+}
+
+// The drawing of a wall, by its number in the file: its figures, and whatever stands behind them as it was; or a refusal, and the buffer as it was.
+// Room for five figures is wanted, whatever the shape.
+#[no_mangle]
+pub extern "C" fn office_drawing(job: &[u8], wall: u32, out: &mut [f64]) -> u64
+    ensures { λ r. ⌜ DrawsPacked (now (job .entry)) wall (now (out .entry)) r (now (out .exit)) ⌝ }
+{
+    let drawn = sheet::drawing(job, wall);
+    let answer = drawn.answer;
+    let shape = drawn.shape;
+    if !reply::is_worked(answer) {
+        return packed(answer, shape);
+    }
+    if out.len() < FIGURE_ROOM {
+        return packed(Answer::BufferTooShort, Shape::Nothing);
+    }
+    put_figures(drawn, out);
+    packed(answer, shape)
+}

@@ -1,0 +1,50 @@
+// Document 01, "What is answered": what an answer says, its number and its place.
+use rules::Answer;
+ghost use mathlib.Core.Path.{_≡_};
+ghost use Rattle.rules.specs.Answered.{number, place, isWorked};
+
+// The number that document 01's table gives a refusal, and 0 where there is none.
+pub fn number_of(answer: Answer) -> u32
+    ensures { λ r. ⌜ r ≡ number answer ⌝ }
+{
+    match answer {
+        Answer::Worked => 0,
+        Answer::TooShort => 1,
+        Answer::WrongEdition => 2,
+        Answer::CountOutOfRange => 3,
+        Answer::WrongOffsetOrLength => 4,
+        Answer::WallOutOfRange(_) => 5,
+        Answer::LoadOutOfRange(_) => 6,
+        Answer::NinthLoad(_) => 7,
+        Answer::BufferTooShort => 8,
+        Answer::NoSuchWall(_) => 18,
+    }
+}
+
+// Its place: the number of a wall or a load, or 0.
+pub fn place_of(answer: Answer) -> u32
+    ensures { λ r. ⌜ r ≡ place answer ⌝ }
+{
+    match answer {
+        Answer::Worked => 0,
+        Answer::TooShort => 0,
+        Answer::WrongEdition => 0,
+        Answer::CountOutOfRange => 0,
+        Answer::WrongOffsetOrLength => 0,
+        Answer::WallOutOfRange(wall) => wall,
+        Answer::LoadOutOfRange(load) => load,
+        Answer::NinthLoad(load) => load,
+        Answer::BufferTooShort => 0,
+        Answer::NoSuchWall(wall) => wall,
+    }
+}
+
+// Is it no refusal?
+pub fn is_worked(answer: Answer) -> bool
+    ensures { λ r. ⌜ r ≡ isWorked answer ⌝ }
+{
+    match answer {
+        Answer::Worked => true,
+        _ => false,
+    }
+}
