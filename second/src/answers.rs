@@ -13,6 +13,12 @@ pub struct Refusal {
     pub place: u64,
 }
 
+/// The refusal of a lent buffer that is too short, after all others.
+pub const BUFFER_TOO_SHORT: Refusal = Refusal {
+    number: 8,
+    place: 0,
+};
+
 impl fmt::Display for Refusal {
     fn fmt(&self, out: &mut fmt::Formatter<'_>) -> fmt::Result {
         write!(out, "refused {} {}", self.number, self.place)

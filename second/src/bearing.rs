@@ -1,17 +1,23 @@
 //! Document 01, "The bearing block": the straight-line pressure under a base.
 
 use crate::rounding::up;
+use crate::Whole;
 
 /// A fraction held as it was made, not reduced; the lower number is above 0.
 #[derive(Clone, Copy, Debug)]
 pub struct Fraction {
-    pub over: i128,
-    pub under: i128,
+    pub over: Whole,
+    pub under: Whole,
+}
+
+/// Of 128 bits in every build: two fractions multiplied out may not fit in 64.
+fn product(a: impl Into<i128>, b: impl Into<i128>) -> i128 {
+    a.into() * b.into()
 }
 
 impl PartialEq for Fraction {
     fn eq(&self, other: &Fraction) -> bool {
-        self.over * other.under == other.over * self.under
+        product(self.over, other.under) == product(other.over, self.under)
     }
 }
 
@@ -37,12 +43,12 @@ const NOUGHT: Fraction = Fraction { over: 0, under: 1 };
 /// N over mm of a metre run is kN/m2, so R over l needs no scale. `None` for
 /// M6 at or below 0. R and l are above 0 for every accepted wall, and so is
 /// 6Rl - M6; other figures get no block either.
-pub fn block(r: i128, m6: i128, l: i128) -> Option<Block> {
+pub fn block(r: Whole, m6: Whole, l: Whole) -> Option<Block> {
     let left = 6 * r * l - m6;
     if r <= 0 || l <= 0 || m6 <= 0 || left <= 0 {
         return None;
     }
-    let fraction = |over: i128, under: i128| Fraction { over, under };
+    let fraction = |over: Whole, under: Whole| Fraction { over, under };
     Some(if m6 < 2 * r * l {
         Block {
             kind: Contact::ToeTriangle,
@@ -68,7 +74,7 @@ pub fn block(r: i128, m6: i128, l: i128) -> Option<Block> {
 }
 
 /// The greatest reported pressure a given block may have, N/m2.
-pub const GREATEST_PEAK: i128 = 2_000_000;
+pub const GREATEST_PEAK: Whole = 2_000_000;
 
 /// N/m2 in the unit of a block's pressures.
 #[derive(Clone, Copy, Debug, PartialEq, Eq)]
@@ -80,7 +86,7 @@ pub enum Case {
 }
 
 impl Case {
-    pub fn pascals(self) -> i128 {
+    pub fn pascals(self) -> Whole {
         match self {
             Case::Service => 1000,
             Case::Factored => 100,
@@ -93,8 +99,8 @@ impl Case {
 pub struct Reported {
     pub block: Block,
     pub case: Case,
-    pub toe: i128,
-    pub heel: i128,
+    pub toe: Whole,
+    pub heel: Whole,
 }
 
 impl Reported {
@@ -108,7 +114,7 @@ impl Reported {
         }
     }
 
-    pub fn peak(&self) -> i128 {
+    pub fn peak(&self) -> Whole {
         self.toe.max(self.heel)
     }
 }
@@ -125,7 +131,7 @@ pub enum Bearing {
 }
 
 impl Bearing {
-    pub fn of(r: i128, m6: i128, l: i128, case: Case) -> Bearing {
+    pub fn of(r: Whole, m6: Whole, l: Whole, case: Case) -> Bearing {
         match block(r, m6, l).map(|block| Reported::of(block, case)) {
             None => Bearing::NoBlock,
             Some(reported) if reported.peak() > GREATEST_PEAK => Bearing::PeakTooGreat(reported),
@@ -141,7 +147,7 @@ impl Bearing {
     }
 
     /// Toe and heel for the sheet, N/m2: 0 and 0 for a block not given.
-    pub fn pressures(&self) -> (i128, i128) {
+    pub fn pressures(&self) -> (Whole, Whole) {
         self.given().map_or((0, 0), |b| (b.toe, b.heel))
     }
 }

@@ -4,13 +4,14 @@
 use crate::answers::{accept, Refusal};
 use crate::bearing::{Bearing, Contact, Reported};
 use crate::sheet_line::{work_wall, Worked};
+use crate::Whole;
 use std::fmt;
 
 /// Two whole numbers and the one division a figure is.
 #[derive(Clone, Copy, Debug, PartialEq, Eq)]
 pub struct Quotient {
-    pub over: i128,
-    pub under: i128,
+    pub over: Whole,
+    pub under: Whole,
 }
 
 impl Quotient {
@@ -41,7 +42,7 @@ pub struct Drawing {
     pub shape: Shape,
 }
 
-fn by_thousand(over: i128) -> Quotient {
+fn by_thousand(over: Whole) -> Quotient {
     Quotient { over, under: 1000 }
 }
 

@@ -4,22 +4,23 @@
 
 use crate::job_file::{Direction, Load, Wall};
 use crate::rounding::{down, half_up, up};
+use crate::Whole;
 
 /// Water, in 10 N/m3.
-pub const WATER_DENSITY: i128 = 981;
+pub const WATER_DENSITY: Whole = 981;
 
 /// mm x mm x (10 N/m3) = 10 x 10^-6 N: a weight is its product over 10^5.
-const WEIGHT_SCALE: i128 = 100_000;
+const WEIGHT_SCALE: Whole = 100_000;
 /// (10 N/m2) x mm = 10 x 10^-3 N.
-const SURCHARGE_WEIGHT_SCALE: i128 = 100;
+const SURCHARGE_WEIGHT_SCALE: Whole = 100;
 /// The surcharge's scale with a coefficient in thousandths.
-const SURCHARGE_PUSH_SCALE: i128 = 100_000;
+const SURCHARGE_PUSH_SCALE: Whole = 100_000;
 /// The weight's scale with a coefficient in thousandths.
-const EARTH_PUSH_SCALE: i128 = 100_000_000;
+const EARTH_PUSH_SCALE: Whole = 100_000_000;
 /// Water pushes in full: no coefficient, so the weight's scale.
-const WATER_PUSH_SCALE: i128 = WEIGHT_SCALE;
+const WATER_PUSH_SCALE: Whole = WEIGHT_SCALE;
 /// A coefficient in thousandths on a force in N.
-const FRICTION_SCALE: i128 = 1000;
+const FRICTION_SCALE: Whole = 1000;
 
 /// What a component is, which settles its factor and the sum it stands in.
 #[derive(Clone, Copy, Debug, PartialEq, Eq)]
@@ -58,7 +59,7 @@ impl Action {
     }
 
     /// The factor of the factored case, in tenths.
-    pub fn factor(self) -> i128 {
+    pub fn factor(self) -> Whole {
         match self {
             SurchargeDown | SurchargePush | LiveDown | LiveAcross => 16,
             _ => 14,
@@ -71,13 +72,13 @@ impl Action {
 #[derive(Clone, Copy, Debug, PartialEq, Eq)]
 pub struct Component {
     pub action: Action,
-    pub vertical: i128,
-    pub horizontal: i128,
-    pub moment: i128,
+    pub vertical: Whole,
+    pub horizontal: Whole,
+    pub moment: Whole,
 }
 
 /// A force down; the distance from the toe is in sixths of a mm.
-fn weight(action: Action, force: i128, six_distances: i128) -> Component {
+fn weight(action: Action, force: Whole, six_distances: Whole) -> Component {
     Component {
         action,
         vertical: force,
@@ -87,7 +88,7 @@ fn weight(action: Action, force: i128, six_distances: i128) -> Component {
 }
 
 /// A force towards the toe; its height is in sixths of a mm.
-fn push(action: Action, force: i128, six_heights: i128) -> Component {
+fn push(action: Action, force: Whole, six_heights: Whole) -> Component {
     Component {
         action,
         vertical: 0,
@@ -102,7 +103,7 @@ pub fn weights(wall: &Wall) -> [Component; 5] {
     let length = wall.base_length();
     let wet = wall.water_on_base();
     let dry = wall.stem_height - wet;
-    let block = |area: i128, density: i128| half_up(area * density, WEIGHT_SCALE);
+    let block = |area: Whole, density: Whole| half_up(area * density, WEIGHT_SCALE);
     let over_heel = 6 * length - 3 * wall.heel;
     [
         weight(
@@ -131,7 +132,7 @@ pub fn weights(wall: &Wall) -> [Component; 5] {
 
 /// The five pushes on a back of the given height with water up to `water`,
 /// both mm above the foot, for a coefficient in thousandths.
-pub fn pushes(wall: &Wall, coefficient: i128, height: i128, water: i128) -> [Component; 5] {
+pub fn pushes(wall: &Wall, coefficient: Whole, height: Whole, water: Whole) -> [Component; 5] {
     let moist = coefficient * wall.moist_density;
     let buoyant = coefficient * (wall.saturated_density - WATER_DENSITY);
     let above = height - water;
@@ -166,7 +167,7 @@ pub fn pushes(wall: &Wall, coefficient: i128, height: i128, water: i128) -> [Com
 
 /// The dead and the live component of a load whose position counts from
 /// `datum` mm.
-pub fn load_components(load: &Load, datum: i128) -> [Component; 2] {
+pub fn load_components(load: &Load, datum: Whole) -> [Component; 2] {
     let arm = 6 * (load.position - datum);
     match load.direction {
         Direction::Down => [
@@ -181,7 +182,7 @@ pub fn load_components(load: &Load, datum: i128) -> [Component; 2] {
 }
 
 /// The component table of a whole wall for one coefficient of earth pressure.
-pub fn component_table(wall: &Wall, loads: &[Load], coefficient: i128) -> Vec<Component> {
+pub fn component_table(wall: &Wall, loads: &[Load], coefficient: Whole) -> Vec<Component> {
     let mut table = weights(wall).to_vec();
     table.extend(pushes(wall, coefficient, wall.height(), wall.water_height));
     table.extend(loads.iter().flat_map(|load| load_components(load, 0)));
@@ -192,19 +193,19 @@ pub fn component_table(wall: &Wall, loads: &[Load], coefficient: i128) -> Vec<Co
 /// those.
 #[derive(Clone, Copy, Debug, PartialEq, Eq)]
 pub struct Totals {
-    pub r: i128,
-    pub h: i128,
-    pub mrest: i128,
-    pub mot: i128,
-    pub m6: i128,
+    pub r: Whole,
+    pub h: Whole,
+    pub mrest: Whole,
+    pub mot: Whole,
+    pub m6: Whole,
 }
 
 /// Sums of a table, each row times the multiplier of its action.
-pub fn totals(table: &[Component], multiplier: impl Fn(Action) -> i128) -> Totals {
-    let sum = |of: &dyn Fn(&Component) -> i128| -> i128 {
+pub fn totals(table: &[Component], multiplier: impl Fn(Action) -> Whole) -> Totals {
+    let sum = |of: &dyn Fn(&Component) -> Whole| -> Whole {
         table.iter().map(|c| multiplier(c.action) * of(c)).sum()
     };
-    let moment_where = |taken: &dyn Fn(Action) -> bool| -> i128 {
+    let moment_where = |taken: &dyn Fn(Action) -> bool| -> Whole {
         sum(&|c| if taken(c.action) { c.moment } else { 0 })
     };
     let mrest = moment_where(&Action::restores);
@@ -227,12 +228,12 @@ pub fn factored_totals(wall: &Wall, loads: &[Load]) -> Totals {
 }
 
 /// mm of soil in front that still resists.
-pub fn passive_depth(wall: &Wall) -> i128 {
+pub fn passive_depth(wall: &Wall) -> Whole {
     (wall.cover_in_front + wall.base_thickness - wall.excavation).max(0)
 }
 
 /// N, rounded down.
-pub fn passive_force(wall: &Wall) -> i128 {
+pub fn passive_force(wall: &Wall) -> Whole {
     let depth = passive_depth(wall);
     down(
         wall.kp_cos * wall.base_soil_density * depth * depth,
@@ -242,8 +243,8 @@ pub fn passive_force(wall: &Wall) -> i128 {
 
 /// N, rounded down, from all that stands on the base for good: the service R
 /// less the rounded surcharge over the heel and the live loads down.
-pub fn friction(wall: &Wall, loads: &[Load]) -> i128 {
-    let lasting: i128 = component_table(wall, loads, wall.ka)
+pub fn friction(wall: &Wall, loads: &[Load]) -> Whole {
+    let lasting: Whole = component_table(wall, loads, wall.ka)
         .iter()
         .filter(|c| !c.action.is_transient())
         .map(|c| c.vertical)
@@ -252,12 +253,12 @@ pub fn friction(wall: &Wall, loads: &[Load]) -> i128 {
 }
 
 /// Whether an unpropped wall slides; a propped one is held.
-pub fn slides(wall: &Wall, resistance: i128, h: i128) -> bool {
+pub fn slides(wall: &Wall, resistance: Whole, h: Whole) -> bool {
     !wall.propped && resistance < h
 }
 
 /// N the prop must give; 0 without a prop.
-pub fn propping_force(wall: &Wall, resistance: i128, h: i128) -> i128 {
+pub fn propping_force(wall: &Wall, resistance: Whole, h: Whole) -> Whole {
     if wall.propped {
         (h - resistance).max(0)
     } else {

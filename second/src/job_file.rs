@@ -1,5 +1,7 @@
 //! Document 01, "The job file": the layout, the fields and their ranges.
 
+use crate::Whole;
+
 pub const EDITION: u16 = 1;
 pub const HEADER_BYTES: usize = 12;
 pub const WALL_FIELDS: usize = 31;
@@ -157,50 +159,51 @@ pub fn read_record<const N: usize>(input: &[u8], offset: usize) -> [u32; N] {
 /// Bars and their place in a section: mm, mm, mm and 1/1000 N/mm2.
 #[derive(Clone, Copy, Debug, PartialEq, Eq)]
 pub struct Reinforcement {
-    pub cover: i128,
-    pub bar: i128,
-    pub spacing: i128,
-    pub concrete_shear_stress: i128,
+    pub cover: Whole,
+    pub bar: Whole,
+    pub spacing: Whole,
+    pub concrete_shear_stress: Whole,
 }
 
-/// One wall: lengths mm, densities in 10 N/m3, coefficients in thousandths.
+/// One wall. Where nothing else is said, a length counts mm, a density tens of
+/// N/m3 and a coefficient thousandths.
 #[derive(Clone, Debug, PartialEq, Eq)]
 pub struct Wall {
     pub propped: bool,
-    pub stem_height: i128,
-    pub stem_thickness: i128,
-    pub toe: i128,
-    pub heel: i128,
-    pub base_thickness: i128,
-    pub cover_in_front: i128,
-    pub excavation: i128,
-    pub water_height: i128,
-    pub stem_density: i128,
-    pub base_density: i128,
-    pub moist_density: i128,
-    pub saturated_density: i128,
-    pub base_soil_density: i128,
-    pub ka: i128,
-    pub k0: i128,
-    pub kp_cos: i128,
-    pub tangent: i128,
+    pub stem_height: Whole,
+    pub stem_thickness: Whole,
+    pub toe: Whole,
+    pub heel: Whole,
+    pub base_thickness: Whole,
+    pub cover_in_front: Whole,
+    pub excavation: Whole,
+    pub water_height: Whole,
+    pub stem_density: Whole,
+    pub base_density: Whole,
+    pub moist_density: Whole,
+    pub saturated_density: Whole,
+    pub base_soil_density: Whole,
+    pub ka: Whole,
+    pub k0: Whole,
+    pub kp_cos: Whole,
+    pub tangent: Whole,
     /// kN/m2
-    pub allowable: i128,
+    pub allowable: Whole,
     /// 10 N/m2
-    pub surcharge: i128,
+    pub surcharge: Whole,
     /// N/mm2
-    pub fcu: i128,
+    pub fcu: Whole,
     /// N/mm2
-    pub fy: i128,
+    pub fy: Whole,
     /// hundredths of a percent
-    pub least_steel: i128,
+    pub least_steel: Whole,
     pub toe_bars: Reinforcement,
     pub stem_bars: Reinforcement,
 }
 
 impl Wall {
     pub fn from_raw(raw: &RawWall) -> Wall {
-        let of = |index: usize| i128::from(raw[index]);
+        let of = |index: usize| Whole::from(raw[index]);
         Wall {
             propped: raw[field::KIND] == 1,
             stem_height: of(field::STEM_HEIGHT),
@@ -231,27 +234,27 @@ impl Wall {
     }
 
     /// l: the base from toe to heel, mm.
-    pub fn base_length(&self) -> i128 {
+    pub fn base_length(&self) -> Whole {
         self.toe + self.stem_thickness + self.heel
     }
 
     /// h: the fill from the base underside to the top, mm.
-    pub fn height(&self) -> i128 {
+    pub fn height(&self) -> Whole {
         self.stem_height + self.base_thickness
     }
 
     /// hsat: the water's height above the top of the base, mm.
-    pub fn water_on_base(&self) -> i128 {
+    pub fn water_on_base(&self) -> Whole {
         (self.water_height - self.base_thickness).max(0)
     }
 }
 
 fn reinforcement(raw: &RawWall, cover: usize, shear: usize) -> Reinforcement {
     Reinforcement {
-        cover: i128::from(raw[cover]),
-        bar: i128::from(raw[cover + 1]),
-        spacing: i128::from(raw[cover + 2]),
-        concrete_shear_stress: i128::from(raw[shear]),
+        cover: Whole::from(raw[cover]),
+        bar: Whole::from(raw[cover + 1]),
+        spacing: Whole::from(raw[cover + 2]),
+        concrete_shear_stress: Whole::from(raw[shear]),
     }
 }
 
@@ -269,9 +272,9 @@ pub struct Load {
     /// Counted from 1.
     pub wall: usize,
     pub direction: Direction,
-    pub position: i128,
-    pub dead: i128,
-    pub live: i128,
+    pub position: Whole,
+    pub dead: Whole,
+    pub live: Whole,
 }
 
 impl Load {
@@ -285,7 +288,7 @@ impl Load {
             1 => (Direction::Across, carrier.height()),
             _ => return None,
         };
-        let position = i128::from(position);
+        let position = Whole::from(position);
         if position > furthest || dead > MOST_LOAD || live > MOST_LOAD {
             return None;
         }
@@ -293,8 +296,8 @@ impl Load {
             wall,
             direction,
             position,
-            dead: i128::from(dead),
-            live: i128::from(live),
+            dead: Whole::from(dead),
+            live: Whole::from(live),
         })
     }
 }
@@ -307,6 +310,15 @@ pub struct Job {
 }
 
 impl Job {
+    /// The loads of each wall, in file order, from one pass over all of them.
+    pub fn loads_by_wall(&self) -> Vec<Vec<Load>> {
+        let mut each = vec![Vec::new(); self.walls.len()];
+        for load in &self.loads {
+            each[load.wall - 1].push(*load);
+        }
+        each
+    }
+
     /// The loads of a wall, numbered from 1, in file order.
     pub fn loads_of(&self, wall: usize) -> Vec<Load> {
         self.loads

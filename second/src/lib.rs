@@ -1,19 +1,36 @@
 //! A second, separate working of the retaining wall sheet of document 01.
 //!
-//! Each module answers to one heading of that document. Whole numbers are
-//! `i128` throughout; the only floating point is in [`drawing`].
+//! Each module answers to one heading of that document. All figures are [`Whole`];
+//! the only floating point is in [`drawing`].
 
 pub mod answers;
 pub mod bearing;
+pub mod compare;
 pub mod drawing;
 pub mod forces;
 pub mod generator;
 pub mod job_file;
+#[cfg(feature = "library")]
+pub mod library;
+pub mod measure;
+pub mod office;
 pub mod random;
 pub mod rounding;
 pub mod section;
 pub mod sheet_line;
 pub mod traits;
+
+use answers::{Refusal, BUFFER_TOO_SHORT};
+use sheet_line::LINE_NUMBERS;
+
+/// The whole numbers of every rule.
+#[cfg(not(feature = "narrow"))]
+pub type Whole = i128;
+
+/// Half as wide, to see what that saves. Every product in an accepted sheet fits:
+/// the greatest, 800 R^2 where a factored triangle is scaled, is below 2^63.
+#[cfg(feature = "narrow")]
+pub type Whole = i64;
 
 /// Bytes worth keeping of an input. The length field is a u16, so an input of
 /// this many bytes or more can never be the length its header gives.
@@ -28,6 +45,24 @@ pub fn sheet(input: &[u8]) -> String {
             .map(|wall| format!("{}\n", wall.line()))
             .collect(),
     }
+}
+
+/// The sheet in numbers, at the start of a lent buffer: those of each wall's
+/// line, wall by wall. What stands behind them stays, and all of it where the
+/// job is refused.
+#[cfg_attr(feature = "narrow", allow(clippy::useless_conversion))]
+pub fn calculate(input: &[u8], out: &mut [i64]) -> Result<(), Refusal> {
+    let job = answers::accept(input)?;
+    if out.len() < LINE_NUMBERS * job.walls.len() {
+        return Err(BUFFER_TOO_SHORT);
+    }
+    let lines = out.chunks_exact_mut(LINE_NUMBERS);
+    for (line, wall) in lines.zip(sheet_line::work_job(&job)) {
+        for (place, number) in line.iter_mut().zip(wall.numbers()) {
+            *place = i64::try_from(number).expect("a line's numbers are far below 2^63");
+        }
+    }
+    Ok(())
 }
 
 /// One line for the drawing of a wall: the shape's name, then the bits of the

@@ -1,18 +1,20 @@
 //! Whole-number division with a named direction of rounding. Divisors are
 //! always above 0 here.
 
+use crate::Whole;
+
 /// Towards minus infinity.
-pub fn down(over: i128, under: i128) -> i128 {
+pub fn down(over: Whole, under: Whole) -> Whole {
     over.div_euclid(under)
 }
 
 /// Towards plus infinity.
-pub fn up(over: i128, under: i128) -> i128 {
+pub fn up(over: Whole, under: Whole) -> Whole {
     -(-over).div_euclid(under)
 }
 
 /// To the nearest whole number, a half going up.
-pub fn half_up(over: i128, under: i128) -> i128 {
+pub fn half_up(over: Whole, under: Whole) -> Whole {
     (2 * over + under).div_euclid(2 * under)
 }
 

@@ -6,12 +6,13 @@ use crate::bearing::{Contact, Reported};
 use crate::forces::{load_components, pushes, Action, Component};
 use crate::job_file::{Direction, Load, Reinforcement, Wall, BARS};
 use crate::rounding::{down, up};
+use crate::Whole;
 
 /// N/m2 under the base at a point, rounded up to a whole number before any use.
 /// Reading taken: a whole block's line joins its exact ends, but a triangle
 /// scales its reported, already rounded, peak by its exact contact. The point is given as twice its
 /// distance from the toe, as half the stem may end on half a mm.
-pub fn pressure_at(bearing: &Reported, l: i128, twice_s: i128) -> i128 {
+pub fn pressure_at(bearing: &Reported, l: Whole, twice_s: Whole) -> Whole {
     let Reported { block, case, .. } = bearing;
     let contact = block.contact;
     // Twice the contact, and twice the distance into it from its zero end,
@@ -37,8 +38,8 @@ pub fn pressure_at(bearing: &Reported, l: i128, twice_s: i128) -> i128 {
 /// Shear and moment of a part.
 #[derive(Clone, Copy, Debug, PartialEq, Eq)]
 pub struct Effects {
-    pub shear: i128,
-    pub moment: i128,
+    pub shear: Whole,
+    pub moment: Whole,
 }
 
 /// The toe under a factored block, its own weight (1.4 times) taken off. The
@@ -75,7 +76,7 @@ pub fn stem_effects(wall: &Wall, loads: &[Load]) -> Effects {
             .filter(|load| load.direction == Direction::Across && load.position >= top_of_base)
             .flat_map(|load| load_components(load, top_of_base)),
     );
-    let factored = |of: fn(&Component) -> i128| -> i128 {
+    let factored = |of: fn(&Component) -> Whole| -> Whole {
         table.iter().map(|c| Action::factor(c.action) * of(c)).sum()
     };
     // Tenths of a N; tenths of sixths of a N mm.
@@ -86,17 +87,17 @@ pub fn stem_effects(wall: &Wall, loads: &[Load]) -> Effects {
 }
 
 /// D, twice the effective depth, mm.
-pub fn twice_depth(thickness: i128, bars: &Reinforcement) -> i128 {
+pub fn twice_depth(thickness: Whole, bars: &Reinforcement) -> Whole {
     2 * thickness - 2 * bars.cover - bars.bar
 }
 
 /// Whether the concrete alone can't take the moment.
-pub fn needs_compression_steel(moment: i128, d: i128, fcu: i128) -> bool {
+pub fn needs_compression_steel(moment: Whole, d: Whole, fcu: Whole) -> bool {
     moment > 39 * fcu * d * d
 }
 
 /// Z, twice the lever arm, mm; `None` where compression steel would be needed.
-pub fn twice_lever_arm(moment: i128, d: i128, fcu: i128) -> Option<i128> {
+pub fn twice_lever_arm(moment: Whole, d: Whole, fcu: Whole) -> Option<Whole> {
     if needs_compression_steel(moment, d, fcu) {
         return None;
     }
@@ -108,30 +109,30 @@ pub fn twice_lever_arm(moment: i128, d: i128, fcu: i128) -> Option<i128> {
 }
 
 /// mm2 per metre for the moment, rounded up.
-pub fn needed_steel(moment: i128, fy: i128, z: i128) -> i128 {
+pub fn needed_steel(moment: Whole, fy: Whole, z: Whole) -> Whole {
     up(200 * moment, 87 * fy * z)
 }
 
 /// mm2 per metre whatever the moment, rounded up; the percentage is in
 /// hundredths.
-pub fn least_steel(percentage: i128, thickness: i128) -> i128 {
+pub fn least_steel(percentage: Whole, thickness: Whole) -> Whole {
     up(percentage * 1000 * thickness, 10_000)
 }
 
 /// Area of one bar in hundredths of mm2, in the order of [`BARS`].
-const BAR_AREAS: [i128; 8] = [5026, 7853, 11309, 20106, 31415, 49087, 80424, 125_663];
+const BAR_AREAS: [Whole; 8] = [5026, 7853, 11309, 20106, 31415, 49087, 80424, 125_663];
 
 /// mm2 per metre put in, rounded down; 0 for a bar that isn't made.
-pub fn provided_steel(bar: i128, spacing: i128) -> i128 {
+pub fn provided_steel(bar: Whole, spacing: Whole) -> Whole {
     BARS.iter()
         .zip(BAR_AREAS)
-        .find(|(size, _)| i128::from(**size) == bar)
+        .find(|(size, _)| Whole::from(**size) == bar)
         .map_or(0, |(_, area)| down(area * 1000, 100 * spacing))
 }
 
 /// Whether V passes all three limits of stress; 2V over 1000 D is the stress
 /// in N/mm2. The first limit is strict.
-pub fn shear_passes(shear: i128, d: i128, stress: i128, fcu: i128) -> bool {
+pub fn shear_passes(shear: Whole, d: Whole, stress: Whole, fcu: Whole) -> bool {
     let twice = 2 * shear;
     let area = 1000 * d;
     twice < stress * d && twice <= 5000 * d && 100 * twice * twice <= 64 * fcu * area * area
@@ -141,13 +142,13 @@ pub fn shear_passes(shear: i128, d: i128, stress: i128, fcu: i128) -> bool {
 #[derive(Clone, Copy, Debug, PartialEq, Eq)]
 pub struct Section {
     pub effects: Effects,
-    pub twice_depth: i128,
-    pub lever_arm: Option<i128>,
-    pub needed: i128,
-    pub least: i128,
+    pub twice_depth: Whole,
+    pub lever_arm: Option<Whole>,
+    pub needed: Whole,
+    pub least: Whole,
     /// 0 where compression steel would be needed.
-    pub required: i128,
-    pub provided: i128,
+    pub required: Whole,
+    pub provided: Whole,
     pub steel_fails: bool,
     pub shear_fails: bool,
 }
@@ -156,7 +157,7 @@ pub struct Section {
 /// compression steel would be needed the area is 0 even if a least area is set.
 pub fn check_section(
     wall: &Wall,
-    thickness: i128,
+    thickness: Whole,
     bars: &Reinforcement,
     effects: Effects,
 ) -> Section {

@@ -6,6 +6,10 @@ use crate::forces::{
 };
 use crate::job_file::{Job, Load, Wall};
 use crate::section::{stem_section, toe_section, Section};
+use crate::Whole;
+
+/// How many numbers a wall's line has.
+pub const LINE_NUMBERS: usize = 16;
 
 pub const SLIDES: u8 = 1;
 pub const OVERTURNS: u8 = 2;
@@ -23,9 +27,9 @@ pub struct Worked {
     pub number: usize,
     pub service: Totals,
     pub factored: Totals,
-    pub passive: i128,
-    pub friction: i128,
-    pub prop: i128,
+    pub passive: Whole,
+    pub friction: Whole,
+    pub prop: Whole,
     pub service_bearing: Bearing,
     pub factored_bearing: Bearing,
     pub toe: Option<Section>,
@@ -60,9 +64,10 @@ pub fn work_wall(number: usize, wall: &Wall, loads: &[Load]) -> Worked {
 
 /// All walls of a job in file order.
 pub fn work_job(job: &Job) -> Vec<Worked> {
-    let numbered = job.walls.iter().enumerate();
-    numbered
-        .map(|(index, wall)| work_wall(index + 1, wall, &job.loads_of(index + 1)))
+    let walls = job.walls.iter().zip(job.loads_by_wall());
+    walls
+        .enumerate()
+        .map(|(index, (wall, loads))| work_wall(index + 1, wall, &loads))
         .collect()
 }
 
@@ -95,16 +100,16 @@ fn failures(wall: &Wall, worked: &Worked) -> u8 {
 }
 
 impl Worked {
-    /// The 16 numbers in the line's order.
-    pub fn numbers(&self) -> [i128; 16] {
+    /// The numbers in the line's order.
+    pub fn numbers(&self) -> [Whole; LINE_NUMBERS] {
         let (toe, heel) = self.service_bearing.pressures();
         let (factored_toe, factored_heel) = self.factored_bearing.pressures();
         let figures = |s: &Section| [s.effects.shear, s.effects.moment, s.required];
         let [toe_v, toe_m, toe_area] = self.toe.as_ref().map_or([0; 3], figures);
         let [stem_v, stem_m, stem_area] = figures(&self.stem);
         [
-            self.number as i128,
-            i128::from(self.failures),
+            self.number as Whole,
+            Whole::from(self.failures),
             self.service.r,
             self.service.h,
             self.prop,
@@ -126,7 +131,7 @@ impl Worked {
     pub fn line(&self) -> String {
         let numbers = self.numbers();
         let mut words = vec![numbers[0].to_string(), format!("{:02x}", self.failures)];
-        words.extend(numbers[2..].iter().map(i128::to_string));
+        words.extend(numbers[2..].iter().map(Whole::to_string));
         words.join(" ")
     }
 }

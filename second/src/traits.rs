@@ -6,9 +6,11 @@ use crate::forces::{passive_depth, Totals};
 use crate::job_file::{Direction, Job, Load, Wall};
 use crate::section::{pressure_at, shear_passes, Section};
 use crate::sheet_line::{work_wall, Worked};
+use crate::Whole;
 use std::collections::BTreeSet;
 
-pub type Words = BTreeSet<&'static str>;
+/// Words in the order in which they were met, some perhaps more than once.
+pub type Words = Vec<&'static str>;
 
 /// Every word there is. The generator is held to reach each of them.
 pub const VOCABULARY: &[&str] = &[
@@ -150,11 +152,11 @@ pub fn line(input: &[u8]) -> String {
     format!("{}\n", all.join(" "))
 }
 
-/// The answer's word, and the words of an accepted job.
-pub fn of(input: &[u8]) -> (&'static str, Words) {
+/// The answer's word, and the words of an accepted job, each once.
+pub fn of(input: &[u8]) -> (&'static str, BTreeSet<&'static str>) {
     match accept(input) {
-        Ok(job) => ("accepted", of_job(&job)),
-        Err(refusal) => (refusal_word(refusal.number), Words::new()),
+        Ok(job) => ("accepted", of_job(&job).into_iter().collect()),
+        Err(refusal) => (refusal_word(refusal.number), BTreeSet::new()),
     }
 }
 
@@ -171,55 +173,50 @@ fn refusal_word(number: u8) -> &'static str {
 }
 
 pub fn of_job(job: &Job) -> Words {
-    let mut words = Words::new();
-    words.insert(match job.walls.len() {
+    let mut words = Words::with_capacity(64);
+    words.push(match job.walls.len() {
         1 => "one-wall",
         64 => "64-walls",
         _ => "few-walls",
     });
-    match job.loads.len() {
-        0 => words.insert("no-loads"),
-        512 => words.insert("512-loads"),
-        _ => false,
-    };
+    note(&mut words, job.loads.is_empty(), "no-loads");
+    note(&mut words, job.loads.len() == 512, "512-loads");
     if !job.loads.is_empty() {
         let in_turn = job
             .loads
             .windows(2)
             .all(|pair| pair[0].wall <= pair[1].wall);
-        words.insert(if in_turn {
+        words.push(if in_turn {
             "loads-in-turn"
         } else {
             "loads-interleaved"
         });
     }
-    for (index, wall) in job.walls.iter().enumerate() {
-        words.extend(of_wall(wall, &job.loads_of(index + 1)));
+    for (wall, loads) in job.walls.iter().zip(job.loads_by_wall()) {
+        wall_words(&mut words, wall, &loads);
     }
     words
 }
 
-pub fn of_wall(wall: &Wall, loads: &[Load]) -> Words {
+fn wall_words(words: &mut Words, wall: &Wall, loads: &[Load]) {
     let worked = work_wall(1, wall, loads);
-    let mut words = Words::new();
-    shape_words(&mut words, wall);
-    load_words(&mut words, wall, loads);
-    service_words(&mut words, wall, &worked);
-    factored_words(&mut words, wall, &worked);
-    failure_words(&mut words, worked.failures);
-    stability_words(&mut words, wall, &worked);
-    toe_words(&mut words, wall, &worked);
-    stem_words(&mut words, wall, &worked.stem);
-    words
+    shape_words(words, wall);
+    load_words(words, wall, loads);
+    service_words(words, wall, &worked);
+    factored_words(words, wall, &worked);
+    failure_words(words, worked.failures);
+    stability_words(words, wall, &worked);
+    toe_words(words, wall, &worked);
+    stem_words(words, wall, &worked.stem);
 }
 
 fn either(words: &mut Words, fact: bool, yes: &'static str, no: &'static str) {
-    words.insert(if fact { yes } else { no });
+    words.push(if fact { yes } else { no });
 }
 
 fn note(words: &mut Words, fact: bool, word: &'static str) {
     if fact {
-        words.insert(word);
+        words.push(word);
     }
 }
 
@@ -236,7 +233,7 @@ fn shape_words(words: &mut Words, wall: &Wall) {
         "passive-depth",
     );
     let water = wall.water_height;
-    words.insert(if water == 0 {
+    words.push(if water == 0 {
         "water-at-0"
     } else if water < wall.base_thickness {
         "water-below-base-top"
@@ -257,11 +254,11 @@ const LOAD_COUNTS: [&str; 9] = [
 fn load_words(words: &mut Words, wall: &Wall, loads: &[Load]) {
     words.extend(LOAD_COUNTS.get(loads.len()));
     for load in loads {
-        words.insert(match load.direction {
+        words.push(match load.direction {
             Direction::Down => place_down(load.position, wall.base_length()),
             Direction::Across => place_across(load.position, wall),
         });
-        words.insert(match (load.dead > 0, load.live > 0) {
+        words.push(match (load.dead > 0, load.live > 0) {
             (true, true) => "load-dead-and-live",
             (true, false) => "load-dead",
             (false, true) => "load-live",
@@ -270,7 +267,7 @@ fn load_words(words: &mut Words, wall: &Wall, loads: &[Load]) {
     }
 }
 
-fn place_down(position: i128, length: i128) -> &'static str {
+fn place_down(position: Whole, length: Whole) -> &'static str {
     if position == 0 {
         "down-at-toe"
     } else if position < length {
@@ -280,7 +277,7 @@ fn place_down(position: i128, length: i128) -> &'static str {
     }
 }
 
-fn place_across(position: i128, wall: &Wall) -> &'static str {
+fn place_across(position: Whole, wall: &Wall) -> &'static str {
     if position == 0 {
         "across-at-0"
     } else if position < wall.base_thickness {
@@ -311,7 +308,7 @@ fn bearing_word(bearing: &Bearing, names: [&'static str; 5]) -> &'static str {
 fn edge_words(
     words: &mut Words,
     total: &Totals,
-    l: i128,
+    l: Whole,
     bearing: &Bearing,
     names: [&'static str; 5],
 ) {
@@ -339,7 +336,7 @@ fn service_words(words: &mut Words, wall: &Wall, worked: &Worked) {
         "service-m6-is-4rl",
         "service-peak-at-limit",
     ];
-    words.insert(bearing_word(&worked.service_bearing, kinds));
+    words.push(bearing_word(&worked.service_bearing, kinds));
     let l = wall.base_length();
     edge_words(words, &worked.service, l, &worked.service_bearing, edges);
 }
@@ -359,7 +356,7 @@ fn factored_words(words: &mut Words, wall: &Wall, worked: &Worked) {
         "factored-m6-is-4rl",
         "factored-peak-at-limit",
     ];
-    words.insert(bearing_word(&worked.factored_bearing, kinds));
+    words.push(bearing_word(&worked.factored_bearing, kinds));
     let l = wall.base_length();
     edge_words(words, &worked.factored, l, &worked.factored_bearing, edges);
 }
@@ -465,7 +462,7 @@ fn steel_words(words: &mut Words, section: &Section, names: [&'static str; 7]) {
     let [compression, least, needed, fails, even, capped, worked] = names;
     note(words, section.steel_fails, fails);
     let Some(arm) = section.lever_arm else {
-        words.insert(compression);
+        words.push(compression);
         return;
     };
     either(words, section.needed > section.least, needed, least);

@@ -6,6 +6,7 @@ use common::accepted_jobs;
 use second::bearing::{block, Block, Contact, Fraction};
 use second::forces::Totals;
 use second::sheet_line::work_job;
+use second::Whole;
 
 /// A reduced fraction with a lower number above 0.
 #[derive(Clone, Copy, Debug, PartialEq, Eq)]
@@ -19,7 +20,8 @@ fn common_measure(a: i128, b: i128) -> i128 {
     }
 }
 
-fn ratio(over: i128, under: i128) -> Ratio {
+fn ratio(over: impl Into<i128>, under: impl Into<i128>) -> Ratio {
+    let (over, under) = (over.into(), under.into());
     assert!(under > 0);
     let by = common_measure(over, under);
     Ratio(over / by, under / by)
@@ -40,7 +42,7 @@ impl Ratio {
 }
 
 /// (t + g) c / 2, and six times the moment about the toe.
-fn carried(block: &Block, l: i128) -> (Ratio, Ratio) {
+fn carried(block: &Block, l: Whole) -> (Ratio, Ratio) {
     let (t, g, c) = (held(block.toe), held(block.heel), held(block.contact));
     let force = t.plus(g).times(c).times(ratio(1, 2));
     let moment = match block.kind {
@@ -51,7 +53,7 @@ fn carried(block: &Block, l: i128) -> (Ratio, Ratio) {
     (force, moment)
 }
 
-fn hold(name: &str, total: &Totals, l: i128, seen: &mut [usize; 4]) {
+fn hold(name: &str, total: &Totals, l: Whole, seen: &mut [usize; 4]) {
     let Some(block) = block(total.r, total.m6, l) else {
         assert!(total.m6 <= 0, "{name}");
         seen[3] += 1;

@@ -8,6 +8,7 @@ use second::forces::{passive_depth, passive_force, pushes};
 use second::job_file::field;
 use second::section::{needed_steel, provided_steel, shear_passes, twice_lever_arm};
 use second::sheet_line::{work_job, NO_SERVICE_BLOCK, OVER_ALLOWABLE, SHEAR, TOE_STEEL};
+use second::Whole;
 
 #[test]
 fn p1_case_a_from_bytes_to_line() {
@@ -40,7 +41,7 @@ fn p4_no_passive_force_once_dug_away() {
     assert_eq!(passive_force(&wall), 2430);
 }
 
-fn service(m6: i128) -> Bearing {
+fn service(m6: Whole) -> Bearing {
     Bearing::of(600, m6, 3000, Case::Service)
 }
 
@@ -192,7 +193,7 @@ fn the_lever_arm_is_the_greatest_within_its_limits() {
         for (wall, worked) in job.walls.iter().zip(work_job(&job)) {
             let (m, d) = (worked.stem.effects.moment, worked.stem.twice_depth);
             let fits =
-                |z: i128| 20 * z <= 19 * d && 2 * z >= d && m <= 225 * wall.fcu * z * (d - z);
+                |z: Whole| 20 * z <= 19 * d && 2 * z >= d && m <= 225 * wall.fcu * z * (d - z);
             let Some(z) = worked.stem.lever_arm else {
                 assert!(m > 39 * wall.fcu * d * d, "{name}");
                 continue;

@@ -8,8 +8,9 @@ use second::forces::{factored_totals, service_totals, Totals};
 use second::generator::draft::{any_load, wide_wall, Draft};
 use second::job_file::{Load, Wall};
 use second::random::Random;
+use second::Whole;
 
-fn five(total: Totals) -> [i128; 5] {
+fn five(total: Totals) -> [Whole; 5] {
     [total.r, total.h, total.mrest, total.mot, total.m6]
 }
 

@@ -7,6 +7,7 @@ use crate::job_file::{field, BARS, MOST_LOAD, MOST_LOADS_A_WALL};
 use crate::random::Random;
 use crate::section::Section;
 use crate::sheet_line::{work_wall, Worked};
+use crate::Whole;
 
 const MOST_TRIES: usize = 500;
 
@@ -89,7 +90,7 @@ enum Landing {
 impl Landing {
     /// How many steps down bring a gap to 0, or to the last step above it or
     /// the first below it.
-    fn steps(self, gap: i128, step: i128) -> Option<i128> {
+    fn steps(self, gap: Whole, step: Whole) -> Option<Whole> {
         let steps = match self {
             Landing::On if gap % step != 0 => return None,
             Landing::On => gap / step,
@@ -123,7 +124,7 @@ fn coarse_height(random: &mut Random, draft: &Draft) -> u32 {
     random.between(top / 2, top)
 }
 
-fn force(newtons: i128) -> Option<u32> {
+fn force(newtons: Whole) -> Option<u32> {
     u32::try_from(newtons).ok().filter(|n| *n <= MOST_LOAD)
 }
 
@@ -144,9 +145,9 @@ fn service_moment(random: &mut Random, target: Target, landing: Landing) -> Opti
     };
     let moment = landing.steps(total.m6 - goal, 6)?;
     let height = coarse_height(random, &draft);
-    let coarse = moment / i128::from(height);
-    let dead = coarse.min(i128::from(MOST_LOAD));
-    let fine = moment % i128::from(height);
+    let coarse = moment / Whole::from(height);
+    let dead = coarse.min(Whole::from(MOST_LOAD));
+    let fine = moment % Whole::from(height);
     draft
         .loads
         .push([1, ACROSS, height, force(dead)?, force(coarse - dead)?]);
@@ -171,8 +172,8 @@ fn factored_moment(random: &mut Random, target: Target, landing: Landing) -> Opt
     let steps = landing.steps(total.m6 - goal, 12)?;
     let height = coarse_height(random, &draft);
     // 56 steps or more are left for the fine load.
-    let coarse = ((steps - 56) / (7 * i128::from(height))).max(0);
-    let left = steps - 7 * coarse * i128::from(height);
+    let coarse = ((steps - 56) / (7 * Whole::from(height))).max(0);
+    let left = steps - 7 * coarse * Whole::from(height);
     let live = left % 7;
     let dead = (left - 8 * live) / 7;
     draft.loads.push([1, ACROSS, height, force(coarse)?, 0]);
@@ -181,7 +182,7 @@ fn factored_moment(random: &mut Random, target: Target, landing: Landing) -> Opt
 }
 
 /// Resistance equal to H, or `short` N less.
-fn sliding(random: &mut Random, short: i128) -> Option<Draft> {
+fn sliding(random: &mut Random, short: Whole) -> Option<Draft> {
     let mut draft = weighed_down(random, Target::Nought);
     draft.walls[0][field::KIND] = 0;
     let worked = worked(&draft);
@@ -210,7 +211,7 @@ fn allowable(random: &mut Random) -> Option<Draft> {
 }
 
 /// Provided steel equal to the required, or `short` mm2 less, in toe or stem.
-fn steel(random: &mut Random, toe: bool, short: i128) -> Option<Draft> {
+fn steel(random: &mut Random, toe: bool, short: Whole) -> Option<Draft> {
     let mut draft = Draft::of(typical_wall(random));
     let (bar, spacing) = if toe {
         (field::TOE_BAR, field::TOE_SPACING)
@@ -262,7 +263,7 @@ fn whole_stress(section: &Section) -> Option<u32> {
 
 /// A stem stress of 4 N/mm2 with fcu 25, the limit 0.8 root fcu, or `over` N
 /// more than that stress gives.
-fn stem_shear_of_concrete(random: &mut Random, over: i128) -> Option<Draft> {
+fn stem_shear_of_concrete(random: &mut Random, over: Whole) -> Option<Draft> {
     let mut draft = Draft::of(typical_wall(random));
     let wall = &mut draft.walls[0];
     wall[field::FCU] = 25;
@@ -272,7 +273,7 @@ fn stem_shear_of_concrete(random: &mut Random, over: i128) -> Option<Draft> {
     // V = 2000 D + over; a live load counts 16 tenths.
     let mut left = 10 * (2000 * bare.twice_depth + over - bare.effects.shear);
     while left > 0 {
-        let live = (left / 16).min(i128::from(MOST_LOAD));
+        let live = (left / 16).min(Whole::from(MOST_LOAD));
         draft.loads.push([1, ACROSS, height, 0, force(live)?]);
         left -= 16 * live;
         if left < 16 {

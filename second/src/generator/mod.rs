@@ -64,12 +64,16 @@ pub fn sample(seed: u64, kind: usize, index: usize) -> Sample {
     KINDS[kind].1(&mut random, index)
 }
 
-/// `count` samples of a seed, going round the kinds, each with the stem of its
-/// file name. A longer run starts with the files of a shorter one.
+/// The sample with a number from 0, going round the kinds, and the stem of its
+/// file name.
+pub fn numbered(seed: u64, number: usize) -> (String, Sample) {
+    let (kind, index) = (number % KINDS.len(), number / KINDS.len());
+    let name = format!("{}-{:04}", KINDS[kind].0, index + 1);
+    (name, sample(seed, kind, index))
+}
+
+/// The first `count` samples of a seed. A longer run starts with the files of a
+/// shorter one.
 pub fn samples(seed: u64, count: usize) -> impl Iterator<Item = (String, Sample)> {
-    (0..count).map(move |i| {
-        let (kind, index) = (i % KINDS.len(), i / KINDS.len());
-        let name = format!("{}-{:04}", KINDS[kind].0, index + 1);
-        (name, sample(seed, kind, index))
-    })
+    (0..count).map(move |number| numbered(seed, number))
 }

@@ -1,0 +1,39 @@
+//! The office library itself, linked from its archive.
+
+use crate::office::{Office, Packed};
+
+// Slices pass as a pointer and a length. The library reads `job` and writes
+// `out`, neither past its length, and keeps no pointer.
+extern "C" {
+    fn office_calculate(job: *const u8, job_length: usize, out: *mut i64, out_length: usize)
+        -> u64;
+    fn office_text(job: *const u8, job_length: usize, out: *mut u8, out_length: usize) -> usize;
+    fn office_drawing(
+        job: *const u8,
+        job_length: usize,
+        wall: u32,
+        out: *mut f64,
+        out_length: usize,
+    ) -> u64;
+}
+
+/// The library's answers.
+pub struct Library;
+
+impl Office for Library {
+    fn calculate(&self, job: &[u8], out: &mut [i64]) -> Packed {
+        // SAFETY: both are whole slices, and the library asks nothing of them.
+        Packed(unsafe { office_calculate(job.as_ptr(), job.len(), out.as_mut_ptr(), out.len()) })
+    }
+
+    fn text(&self, job: &[u8], out: &mut [u8]) -> usize {
+        // SAFETY: as above.
+        unsafe { office_text(job.as_ptr(), job.len(), out.as_mut_ptr(), out.len()) }
+    }
+
+    fn drawing(&self, job: &[u8], wall: u32, out: &mut [f64]) -> Packed {
+        let (figures, room) = (out.as_mut_ptr(), out.len());
+        // SAFETY: as above.
+        Packed(unsafe { office_drawing(job.as_ptr(), job.len(), wall, figures, room) })
+    }
+}

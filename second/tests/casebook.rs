@@ -1,0 +1,98 @@
+//! The jobs that the gate gives to `crates/casebook`: they are the generator's,
+//! they touch everything, and the text it is held to is this program's.
+
+use second::generator::samples;
+use second::traits::{of, VOCABULARY};
+use std::collections::{BTreeMap, BTreeSet};
+use std::fs::{read, read_dir, read_to_string, File};
+use std::path::{Path, PathBuf};
+use std::process::Command;
+
+const SEED: u64 = 57;
+const COUNT: usize = 918;
+
+/// So many jobs of a kind are taken, the first ones.
+fn taken(kind: &str) -> usize {
+    match kind {
+        "edges" => 34,
+        "toe-and-stem" => 16,
+        "raw" => 8,
+        _ => 7,
+    }
+}
+
+fn crate_part(part: &str) -> PathBuf {
+    Path::new(env!("CARGO_MANIFEST_DIR"))
+        .join("../crates/casebook")
+        .join(part)
+}
+
+/// The jobs that stand there, in the order of their names.
+fn kept() -> BTreeMap<String, Vec<u8>> {
+    read_dir(crate_part("data"))
+        .unwrap()
+        .map(|entry| entry.unwrap())
+        .map(|entry| {
+            let name = entry.file_name().into_string().unwrap();
+            (name, read(entry.path()).unwrap())
+        })
+        .collect()
+}
+
+/// The jobs that should.
+fn made() -> BTreeMap<String, Vec<u8>> {
+    samples(SEED, COUNT)
+        .filter(|(name, _)| {
+            let (kind, number) = name.rsplit_once('-').unwrap();
+            number.parse::<usize>().unwrap() <= taken(kind)
+        })
+        .map(|(name, sample)| (format!("{name}.job"), sample.bytes))
+        .collect()
+}
+
+#[test]
+fn the_jobs_are_the_generators_byte_for_byte() {
+    let (kept, made) = (kept(), made());
+    assert!(kept.keys().eq(made.keys()), "other names than are made");
+    for (name, bytes) in &made {
+        assert!(kept[name] == *bytes, "{name} isn't what generate makes");
+    }
+    assert_eq!(kept.len(), 226);
+}
+
+#[test]
+fn the_arguments_name_them_in_order() {
+    let lines: String = kept().keys().map(|name| format!("{name}\n")).collect();
+    assert_eq!(read_to_string(crate_part("args")).unwrap(), lines);
+}
+
+#[test]
+fn the_text_is_what_this_program_prints() {
+    let mut printed = Vec::new();
+    for name in kept().keys() {
+        let job = File::open(crate_part("data").join(name)).unwrap();
+        let mut command = Command::new(env!("CARGO_BIN_EXE_second"));
+        let output = command.stdin(job).output().unwrap();
+        assert!(output.status.success(), "{name}");
+        printed.extend(output.stdout);
+    }
+    let text = read(crate_part("stdout")).unwrap();
+    assert!(text == printed, "other text than second prints");
+}
+
+/// Every refusal, every block in service and factored, every bit set and
+/// clear, a toe of no length, limits at equality and all the rest.
+#[test]
+fn every_word_of_the_traits_is_touched() {
+    let mut touched = BTreeSet::new();
+    for bytes in kept().values() {
+        let (answer, words) = of(bytes);
+        touched.insert(answer);
+        touched.extend(words);
+    }
+    let missed: Vec<_> = VOCABULARY
+        .iter()
+        .filter(|word| !touched.contains(**word))
+        .collect();
+    assert!(missed.is_empty(), "missed: {missed:?}");
+}

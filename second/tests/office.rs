@@ -1,0 +1,104 @@
+//! The entries of the office library as this program answers them, on lent
+//! buffers of every size.
+
+mod common;
+
+use common::{case_a_bytes, case_a_draft, CASE_A_LINE};
+use second::answers::{Refusal, BUFFER_TOO_SHORT};
+use second::office::{Office, Packed, Second, TEXT_ROOM};
+
+const CASE_A_NUMBERS: [i64; 16] = [
+    1,
+    0,
+    134_160,
+    43_627,
+    0,
+    767_102_100,
+    88_312,
+    28_349,
+    173_078,
+    0,
+    71_688,
+    30_840_740,
+    390,
+    80_700,
+    92_700_000,
+    892,
+];
+
+#[test]
+fn numbers_stand_at_the_start_and_the_rest_stays() {
+    for more in [0, 1, 20] {
+        let mut out = vec![-7; 16 + more];
+        assert_eq!(second::calculate(&case_a_bytes(), &mut out), Ok(()));
+        assert_eq!(out[..16], CASE_A_NUMBERS);
+        assert!(out[16..].iter().all(|number| *number == -7));
+    }
+}
+
+#[test]
+fn a_buffer_too_short_is_refused_last_and_left_alone() {
+    let mut draft = case_a_draft();
+    draft.walls.push(draft.walls[0]);
+    for room in [0, 15, 16, 31] {
+        let mut out = vec![-7; room];
+        let refused = second::calculate(&draft.bytes(), &mut out);
+        assert_eq!(refused, Err(BUFFER_TOO_SHORT));
+        assert!(out.iter().all(|number| *number == -7));
+    }
+    draft.walls[1][0] = 2;
+    let refused = Err(Refusal {
+        number: 5,
+        place: 2,
+    });
+    for room in [0, 31, 32] {
+        let mut out = vec![-7; room];
+        assert_eq!(second::calculate(&draft.bytes(), &mut out), refused);
+        assert!(out.iter().all(|number| *number == -7));
+    }
+}
+
+#[test]
+fn texts_need_the_room_of_any_text() {
+    let mut out = vec![0xff; TEXT_ROOM];
+    let printed = Second.text(&case_a_bytes(), &mut out);
+    assert_eq!(&out[..printed], CASE_A_LINE.as_bytes());
+    assert!(out[printed..].iter().all(|byte| *byte == 0xff));
+    assert_eq!(Second.text(&[], &mut out), "refused 1 0\n".len());
+    let mut short = vec![0xff; TEXT_ROOM - 1];
+    assert_eq!(Second.text(&case_a_bytes(), &mut short), 0);
+    assert!(short.iter().all(|byte| *byte == 0xff));
+}
+
+#[test]
+fn drawings_have_their_refusals_in_order() {
+    let drawn = |wall: u32, room: usize| {
+        let mut out = vec![-0.5; room];
+        let answer = Second.drawing(&case_a_bytes(), wall, &mut out);
+        (answer, out)
+    };
+    let (answer, out) = drawn(1, 7);
+    assert_eq!((answer.shape(), answer.number(), answer.place()), (1, 0, 0));
+    assert_eq!(out[..2], [134.16, 43.627]);
+    assert_eq!(out[3..], [88.312, 28.349, -0.5, -0.5]);
+    assert_eq!(drawn(1, 4), (Packed(8 << 32), vec![-0.5; 4]));
+    for room in [0, 4, 5] {
+        for wall in [0, 2, u32::MAX] {
+            let refused = Packed(18 << 32 | u64::from(wall));
+            assert_eq!(drawn(wall, room), (refused, vec![-0.5; room]));
+        }
+    }
+}
+
+/// No block: the record's three figures, and two of the five left alone.
+#[test]
+fn a_drawing_of_nothing_has_three_figures() {
+    let mut draft = case_a_draft();
+    draft.loads.push([1, 1, 3300, 200_000, 0]);
+    let mut out = [-0.5; 6];
+    let answer = Second.drawing(&draft.bytes(), 1, &mut out);
+    assert_eq!(answer, Packed(0));
+    assert_eq!(out[..2], [134.16, 243.627]);
+    assert!(out[2] < 0.0 && out[2] != -0.5);
+    assert_eq!(out[3..], [-0.5; 3]);
+}
