@@ -13,7 +13,7 @@ pub record Bounds (R M6 l : ℕ) : Type 0 where
 
 pub bounds : {R M6 l : ℕ} → Within R M6 l → Bounds R M6 l
 bounds {R} {M6} {l} w =
-    let r : R ≤ heaviestFactored = omega (arith, w .vertical) in
+    let r : R ≤ heaviestFactored = omega (arith, w .force) in
     let long : l ≤ longest = w .length .1 in
     record {
       along = omega (arith, mul-le-mul r long);

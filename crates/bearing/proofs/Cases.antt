@@ -19,7 +19,7 @@ module _ (R M6 l : ℕ) where
   -- ---- the kind is that whose case M6 falls in, and the other way round
 
   kind : Within R M6 l → (k : Kind) → (kindOf (pos R) (pos M6) (pos l) ≡ k) ↔ Makes k (pos R) (pos M6) (pos l)
-  kind w = kind-makes (pos R) (pos M6) (pos l) (pos-<ℤ .1 (w .vertical .0)) (pos-<ℤ .1 (w .length .0))
+  kind w = kind-makes (pos R) (pos M6) (pos l) (pos-<ℤ .1 (w .force .0)) (pos-<ℤ .1 (w .length .0))
 
   pub its-case : Within R M6 l → Makes (kindOf (pos R) (pos M6) (pos l)) (pos R) (pos M6) (pos l)
   its-case w = kind w (kindOf (pos R) (pos M6) (pos l)) .0 refl

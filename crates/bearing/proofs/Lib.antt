@@ -1,4 +1,6 @@
 pub mod Bounds
+pub mod Carried
 pub mod Cases
+pub mod Once
 pub mod Reports
 pub mod Workable

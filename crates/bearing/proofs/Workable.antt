@@ -12,9 +12,8 @@ use Rattle.whole.proofs.Lists.{case}
 use Rattle.rules.specs.declared.Totals.{Totals}
 use Rattle.rules.specs.declared.Forces.{Forces}
 use Rattle.rules.specs.JobFile.{Wall, Load, baseLength}
-use Rattle.rules.specs.Answered.{examined, fits}
-use Rattle.rules.specs.Forces.{noTotals, noForces, workedForces, forcesOf}
 use Rattle.rules.specs.Bearing.{serviceScale, factoredScale}
+use Rattle.rules.specs.Beyond.{examined, fits, noTotals, noForces, workedForces, forcesOf}
 use Rattle.rules.proofs.Accepted.{wall-within, longest, base-length}
 use Rattle.rules.proofs.Examined.{fit}
 use Rattle.rules.proofs.Sizes.{Sized, heaviest, heaviestFactored, service-sized, factored-sized}
@@ -27,7 +26,7 @@ module _ (scale most l : ℕ) (small : scale ≤ 1000) (light : most ≤ heavies
       let under : r ≤ most = omega (arith, pos-<ℤ .0 less) in
       let squares : 4 * r * r ≤ 4 * most * most = omega (arith, mul-le-mul under under) in
       record {
-        within = record { vertical = (pos-<ℤ .0 some, omega (arith, pos-<ℤ .0 less)); length = long; on-base = pos-<ℤ .0 on };
+        within = record { force = (pos-<ℤ .0 some, omega (arith, pos-<ℤ .0 less)); length = long; on-base = pos-<ℤ .0 on };
         small = small;
         square = omega (arith, mul-le-mul-left scale squares);
       }
@@ -35,7 +34,7 @@ module _ (scale most l : ℕ) (small : scale ≤ 1000) (light : most ≤ heavies
   scaled (negsuc r) M6 some less on up = absurd (some .lt)
 
   sized : (t : Totals) → Sized (pos l) most t → Workable scale l t
-  sized t s = record { least = ≤ℤ-of-<ℤ (s .some); scaled = scaled (t .vertical) (t .moment) (s .some) (s .vertical) (s .on-base) }
+  sized t s = record { least = ≤ℤ-of-<ℤ (s .some); scaled = scaled (t .R) (t .M6) (s .some) (s .R) (s .on-base) }
 
 -- and so are totals of 0, which have no block
 none : (scale l : ℕ) → Workable scale l noTotals

@@ -10,7 +10,7 @@ use Rattle.rules.proofs.Sizes.{heaviestFactored}
 
 -- R, M6 and l, of an accepted wall in service or factored
 pub record Within (R M6 l : ℕ) : Type 0 where
-  pub vertical : (0 < R) × (R < heaviestFactored)
+  pub force : (0 < R) × (R < heaviestFactored)
   pub length : (0 < l) × (l ≤ longest)
   pub on-base : M6 < 6 * R * l
 
@@ -22,8 +22,8 @@ pub record Scaled (scale R M6 l : ℕ) : Type 0 where
 
 -- totals that a block can be worked from and reported by; where M6 isn't above 0 there is none to work
 pub record Workable (scale l : ℕ) (t : Totals) : Type 0 where
-  pub least : pos 0 ≤ℤ t .vertical
-  pub scaled : 0 < aboveZero (t .moment) → Scaled scale (aboveZero (t .vertical)) (aboveZero (t .moment)) l
+  pub least : pos 0 ≤ℤ t .R
+  pub scaled : 0 < aboveZero (t .M6) → Scaled scale (aboveZero (t .R)) (aboveZero (t .M6)) l
 
 -- a block's pressures can be multiplied by the scale
 pub record Reportable (scale : ℕ) (b : Block) : Type 0 where

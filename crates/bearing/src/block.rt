@@ -102,14 +102,10 @@ fn block_above_zero(r: u64, m: u64, l: u64) -> Block
 
 // The block that R and M6 make, signed as they are; where M6 is not above 0, there is none.
 fn block_of(totals: Totals, l: u64) -> Block
-    requires { ⌜ (pos 0 ≤ℤ totals .vertical) × (0 < aboveZero (totals .moment) → Within (aboveZero (totals .vertical)) (aboveZero (totals .moment)) l) ⌝ }
-    ensures { λ b. ⌜ b ≡ blockOf (totals .vertical) (totals .moment) (pos l) ⌝ }
+    requires { ⌜ (pos 0 ≤ℤ totals .R) × (0 < aboveZero (totals .M6) → Within (aboveZero (totals .R)) (aboveZero (totals .M6)) l) ⌝ }
+    ensures { λ b. ⌜ b ≡ blockOf (totals .R) (totals .M6) (pos l) ⌝ }
 {
-    block_above_zero(
-        whole::above_zero(totals.vertical),
-        whole::above_zero(totals.moment),
-        l,
-    )
+    block_above_zero(whole::above_zero(totals.R), whole::above_zero(totals.M6), l)
 }
 
 // A pressure in N/m2, rounded up.
@@ -147,7 +143,7 @@ fn pressed(scale: u64, block: Block) -> Pressed
 // What bears some totals: their block, and its pressures at a scale.
 pub fn pressed_by(scale: u64, totals: Totals, l: u64) -> Pressed
     requires { ⌜ Workable scale l totals ⌝ }
-    ensures { λ p. ⌜ p ≡ pressedBy scale (given scale (blockOf (totals .vertical) (totals .moment) (pos l))) ⌝ }
+    ensures { λ p. ⌜ p ≡ pressedBy scale (given scale (blockOf (totals .R) (totals .M6) (pos l))) ⌝ }
 {
     pressed(scale, block_of(totals, l))
 }

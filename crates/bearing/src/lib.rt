@@ -3,11 +3,9 @@ mod block;
 
 use record::Loads;
 use record::Wall;
-use rules::Block;
 use rules::Borne;
-use rules::Kind;
 ghost use mathlib.Core.Path.{_≡_};
-ghost use Rattle.rules.specs.Bearing.{isGiven, bearingOf};
+ghost use Rattle.rules.specs.Beyond.{bearingOf};
 
 // N/m2 in a kN/m2, and in a tenth of one.
 const SERVICE_SCALE: u64 = 1000;
@@ -18,24 +16,11 @@ pub const FACTORED_SCALE: u64 = 100;
 pub fn blocks(wall: Wall, loads: Loads) -> Borne
     ensures { λ r. ⌜ r ≡ bearingOf wall loads ⌝ }
 {
-    let forces = forces::totals(wall, loads);
+    let forces = forces::forces_on(wall, loads);
     let length = record::base_length(wall);
     Borne {
         forces: forces,
         service: block::pressed_by(SERVICE_SCALE, forces.service, length),
         factored: block::pressed_by(FACTORED_SCALE, forces.factored, length),
-    }
-}
-
-// Is there a block?
-pub fn is_given(block: Block) -> bool
-    ensures { λ r. ⌜ r ≡ isGiven block ⌝ }
-{
-    let kind = block.kind;
-    match kind {
-        Kind::NoBlock => false,
-        Kind::Full => true,
-        Kind::FromToe => true,
-        Kind::FromHeel => true,
     }
 }

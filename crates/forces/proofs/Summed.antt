@@ -1,13 +1,12 @@
 -- The sums that the code makes are those of the rules: its lists of rows, sorts and weights, and its bounds.
 use mathlib.Core.Path.{_≡_, refl, sym, _∙_}
-use mathlib.Core.Bool.{Bool, true, false, cond}
+use mathlib.Core.Bool.{Bool}
 use mathlib.Core.List.{List, [], _∷_, _++_, map, map-append, map-map}
 use Prim.Native.Nat.{ℕ, zero, suc, _*_, _≤_, _<_, _^_}
 use native.Mathlib.Omega.{arith}
 use lib.Dec.{T, leb, leb→le}
-use lib.Ieee.Bits.{is-true}
-use lib.IntN.{ℤ, pos, natAbs, _*ℤ_, *ℤ-zero}
-use lib.ListN.{length, getD, replicate, length-map, List·getD-map}
+use lib.IntN.{ℤ, pos, natAbs, _*ℤ_}
+use lib.ListN.{length, getD, length-map, List·getD-map}
 use lib.Signed.{mag}
 use mir.Syntax.{w64}
 use mir.Val.{ofZ, toZ}
@@ -15,19 +14,17 @@ use mir.ValLaws.{toZ-ofZ}
 use Rattle.whole.specs.Sum.{sumTo}
 use Rattle.whole.proofs.Integer.{abs-weighted}
 use Rattle.whole.proofs.Lists.{of-either}
-use Rattle.whole.proofs.Sums.{sumTo-same, sumTo-zeros, sumTo-abs, sumOf-sumTo}
-use Rattle.rules.specs.JobFile.{Wall, Load, mostLoadsOnWall, baseThickness, activeCoefficient, restCoefficient, isDown, deadLoad, liveLoad}
-use Rattle.rules.specs.Answered.{fits}
-use Rattle.rules.specs.Forces.{Sort, deadWeight, liveWeight, deadPush, livePush, Component, weightRows, pushRows, loadRow, deadRow, liveRow, loadTable, table, vertical, horizontal, moment, columnSum, restores, overturns, balances, totals}
-use Rattle.rules.proofs.Accepted.{both, every}
+use Rattle.whole.proofs.Sums.{sumTo-same, sumTo-abs, sumOf-sumTo}
+use Rattle.rules.specs.JobFile.{Wall, Load, mostLoadsOnWall, baseThickness, isDown, deadLoad, liveLoad}
+use Rattle.rules.specs.Forces.{Sort, deadWeight, liveWeight, deadPush, livePush, Component, weightRows, pushRows, loadRow, deadRow, liveRow, loadTable, table, vertical, horizontal, moment, columnSum, restores, overturns, totals}
+use Rattle.rules.proofs.Moments.{balances, one-sum}
+use Rattle.rules.proofs.Accepted.{both, every, most}
+use Rattle.rules.proofs.Examined.{Fit}
 use Rattle.rules.proofs.Sizes.{none}
-use Rattle.components.specs.declared.Case.{Case}
-use Rattle.components.specs.declared.Case.the-variants.{Service, Factored, Stem}
-use Rattle.components.specs.Faces.{rowsOf}
-use Rattle.components.specs.Tables.{components, onStem, noRow, stemInPlace, componentsFor, tableOf}
-use Rattle.components.proofs.InPlace.{of-fit}
-use Rattle.components.proofs.Cells.{nothing-at, table-cells}
-use Rattle.components.proofs.OnStem.{same-way}
+use Rattle.forces.specs.Faces.{rowsOf}
+use Rattle.forces.specs.Tables.{components, onStem, stemInPlace}
+use Rattle.forces.proofs.Cells.{SmallCells, wall-cells, stem-cells}
+use Rattle.forces.proofs.OnStem.{same-way}
 use Rattle.forces.specs.Sorts.{placeOf, weightsOf, firstSorts, byWay, sortsOf, weighted, weightedSum, Small, Light, AllLight, totalWeights, totalsBy}
 use Rattle.whole.proofs.Indexed.{joined-length}
 
@@ -64,14 +61,13 @@ module _ (rows : List Component) (all : length rows ≡ components) where
   unfolding totalsBy totals
   totals-summed counts e =
       rw e
-      (cc
-      (column-summed counts vertical refl, column-summed counts horizontal refl, column-summed (λ s. counts s *ℤ restores s) moment refl, column-summed (λ s. counts s *ℤ overturns s) moment refl, column-summed (λ s. counts s *ℤ balances s) moment refl))
-
--- rows of zeros sum to 0
-nothing-summed : (sorts : List ℕ) (weights : List ℤ) (column : ℕ) → weightedSum (replicate components noRow) sorts weights column ≡ pos 0
-unfolding weightedSum
-nothing-summed sorts weights column =
-    sumTo-zeros _ components (λ i h. rw (nothing-at components i column) (*ℤ-zero (getD weights (getD sorts i 0) (pos 0))))
+      (λ i. record {
+        R = column-summed counts vertical refl i;
+        H = column-summed counts horizontal refl i;
+        Mrest = column-summed (λ s. counts s *ℤ restores s) moment refl i;
+        Mot = column-summed (λ s. counts s *ℤ overturns s) moment refl i;
+        M6 = (column-summed (λ s. counts s *ℤ balances s) moment refl ∙ sym (one-sum counts rows)) i;
+      })
 
 -- ---- the sorts
 -- those of one part of the loads go by their directions
@@ -91,11 +87,9 @@ of-wall : (K : ℕ) (wall : Wall) (loads : List Load) → placesOf (table K wall
 unfolding weightRows pushRows table sortsOf
 of-wall K wall loads = rw (parts loads)
 
-sorts-of-table : (case : Case) (wall : Wall) (loads : List Load) → placesOf (componentsFor case wall loads) ≡ sortsOf loads
-unfolding componentsFor pushRows stemInPlace sortsOf
-sorts-of-table Service wall loads = of-wall (activeCoefficient wall) wall loads
-sorts-of-table Factored wall loads = of-wall (restCoefficient wall) wall loads
-sorts-of-table Stem wall loads = rw (parts (map (onStem (baseThickness wall)) loads)) (simp (map-map, same-way))
+of-stem : (wall : Wall) (loads : List Load) → placesOf (stemInPlace wall loads) ≡ sortsOf loads
+unfolding pushRows stemInPlace sortsOf
+of-stem wall loads = rw (parts (map (onStem (baseThickness wall)) loads)) (simp (map-map, same-way))
 
 -- each is one of four
 sorted : (loads : List Load) (i : ℕ) → getD (sortsOf loads) i 0 < 4
@@ -112,38 +106,37 @@ pub sorts-length : (loads : List Load) → length loads ≡ mostLoadsOnWall → 
 unfolding sortsOf
 sorts-length loads eight = joined-length firstSorts (byWay 0 2) (byWay 1 3) loads 10 8 refl eight
 
--- ---- what is answered
-module _ (case : Case) (wall : Wall) (loads : List Load) {rows : List (List ℤ)} {sorts : List ℕ}
-    (tabled : rows ≡ tableOf case wall loads) (placed : sorts ≡ sortsOf loads) where
+-- ---- the tables of a wall that fits with its loads
+-- components of the sorts that the loads give, with no cell that is great
+pub record Summable (loads : List Load) (rows : List Component) : Type 0 where
+  pub places : placesOf rows ≡ sortsOf loads
+  pub cells : SmallCells (rowsOf rows)
+
+module _ (wall : Wall) (loads : List Load) (f : Fit wall loads) where
+  pub wall-summable : (K : ℕ) → K ≤ most 16 → Summable loads (table K wall loads)
+  wall-summable K k = record { places = of-wall K wall loads; cells = wall-cells wall loads f K k }
+
+  pub stem-summable : Summable loads (stemInPlace wall loads)
+  stem-summable = record { places = of-stem wall loads; cells = stem-cells wall loads f }
+
+-- what the code makes of such rows and sorts
+module _ {loads : List Load} {rows : List Component} (s : Summable loads rows) {cells : List (List ℤ)} {sorts : List ℕ}
+    (tabled : cells ≡ rowsOf rows) (placed : sorts ≡ sortsOf loads) where
   -- every cell is small, and every sort is one
-  pub small : Small rows sorts
-  small = rw (tabled, placed) (record { cells = table-cells case wall loads; sorted = sorted loads })
+  pub small : Small cells sorts
+  small = rw (tabled, placed) (record { cells = s .cells; sorted = sorted loads })
 
-  -- with as many loads as there may be, the totals and the sums are those of the components where the wall fits with its loads
+  -- with as many loads as there may be, the totals and the sums are those of the components
   module _ (eight : length loads ≡ mostLoadsOnWall) where
-    all-rows : length (componentsFor case wall loads) ≡ components
-    all-rows = sym (length-map (componentsFor case wall loads) place) ∙ rw (sorts-of-table case wall loads) (sorts-length loads eight)
+    all-rows : length rows ≡ components
+    all-rows = sym (length-map rows place) ∙ rw (s .places) (sorts-length loads eight)
 
-    pub totals-are : T (fits wall loads) → (counts : Sort → ℤ) {weights : List (List ℤ)} → weights ≡ totalWeights counts
-        → totalsBy rows sorts weights ≡ totals counts (componentsFor case wall loads)
-    totals-are t counts e =
-        rw (tabled, placed, of-fit case wall loads t, ← sorts-of-table case wall loads) (totals-summed (componentsFor case wall loads) all-rows counts e)
+    pub totals-are : (counts : Sort → ℤ) {weights : List (List ℤ)} → weights ≡ totalWeights counts → totalsBy cells sorts weights ≡ totals counts rows
+    totals-are counts e = rw (tabled, placed, ← s .places) (totals-summed rows all-rows counts e)
 
-    -- and where it is refused every sum is 0
-    pub any-sum : (weight : Sort → ℤ) {weights : List ℤ} (column : ℕ) → weights ≡ weightsOf weight
-        → weightedSum rows sorts weights column ≡ cond (fits wall loads) (columnSum weight column (componentsFor case wall loads)) (pos 0)
-    unfolding tableOf
-    any-sum weight {weights} column e = rw (tabled, placed, ← sorts-of-table case wall loads) (go (fits wall loads))
-      where
-        go : (b : Bool)
-            → weightedSum (cond b (rowsOf (componentsFor case wall loads)) (replicate components noRow)) (placesOf (componentsFor case wall loads)) weights column
-            ≡ cond b (columnSum weight column (componentsFor case wall loads)) (pos 0)
-        go true = column-summed (componentsFor case wall loads) all-rows weight column e
-        go false = nothing-summed (placesOf (componentsFor case wall loads)) weights column
-
-    pub sum-is : T (fits wall loads) → (weight : Sort → ℤ) {weights : List ℤ} (column : ℕ) → weights ≡ weightsOf weight
-        → weightedSum rows sorts weights column ≡ columnSum weight column (componentsFor case wall loads)
-    sum-is t weight column e = any-sum weight column e ∙ rw (is-true (fits wall loads) t)
+    pub sum-is : (weight : Sort → ℤ) {weights : List ℤ} (column : ℕ) → weights ≡ weightsOf weight
+        → weightedSum cells sorts weights column ≡ columnSum weight column rows
+    sum-is weight column e = rw (tabled, placed, ← s .places) (column-summed rows all-rows weight column e)
 
 -- ---- the bounds
 -- where every element passes a test, what stands at an index does, and what is read behind the end if it passes too

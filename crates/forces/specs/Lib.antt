@@ -1,1 +1,3 @@
+pub mod Faces
 pub mod Sorts
+pub mod Tables

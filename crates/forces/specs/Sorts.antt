@@ -7,8 +7,9 @@ use lib.IntN.{ℤ, pos, natAbs, _*ℤ_}
 use Rattle.whole.specs.Sum.{sumTo}
 use Rattle.rules.specs.declared.Totals.{Totals}
 use Rattle.rules.specs.JobFile.{Load, isDown}
-use Rattle.components.specs.Tables.{components}
-use Rattle.rules.specs.Forces.{Sort, deadWeight, liveWeight, deadPush, livePush, vertical, horizontal, moment, restores, overturns, balances}
+use Rattle.forces.specs.Tables.{components}
+use Rattle.rules.specs.Forces.{Sort, deadWeight, liveWeight, deadPush, livePush, vertical, horizontal, moment, restores, overturns}
+use Rattle.rules.proofs.Moments.{balances}
 
 -- a sort's place among the weights
 abbrev pub placeOf : Sort → ℕ
@@ -63,9 +64,9 @@ totalWeights counts =
 unfoldable pub totalsBy : List (List ℤ) → List ℕ → List (List ℤ) → Totals
 totalsBy table sorts weights =
     record {
-      vertical = weightedSum table sorts (getD weights 0 []) vertical;
-      horizontal = weightedSum table sorts (getD weights 0 []) horizontal;
-      restoring = weightedSum table sorts (getD weights 1 []) moment;
-      overturning = weightedSum table sorts (getD weights 2 []) moment;
-      moment = weightedSum table sorts (getD weights 3 []) moment;
+      R = weightedSum table sorts (getD weights 0 []) vertical;
+      H = weightedSum table sorts (getD weights 0 []) horizontal;
+      Mrest = weightedSum table sorts (getD weights 1 []) moment;
+      Mot = weightedSum table sorts (getD weights 2 []) moment;
+      M6 = weightedSum table sorts (getD weights 3 []) moment;
     }

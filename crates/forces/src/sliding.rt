@@ -1,6 +1,6 @@
 // Document 01, "Forces": what holds a wall that fits against sliding, in service figures. Passive force and friction are rounded down.
-use components::units::PER_SQUARE_AT_K;
-use components::units::THOUSANDTHS;
+use crate::units::PER_SQUARE_AT_K;
+use crate::units::THOUSANDTHS;
 use record::BASE_THICKNESS;
 use record::COVER_IN_FRONT;
 use record::EXCAVATION;
@@ -47,14 +47,14 @@ fn friction_under(wall: Wall, lasting: i64) -> u64
 }
 
 // An unpropped wall slides where less holds it than pushes it; a propped one leaves the rest to its prop.
-pub fn held(wall: Wall, lasting: i64, horizontal: i64) -> Sliding
+pub fn held(wall: Wall, lasting: i64, pushing: i64) -> Sliding
     requires { ⌜ T (wallFits wall) × (lasting <ℤ pos heaviest) ⌝ }
-    ensures { λ r. ⌜ r ≡ slidingUnder wall lasting horizontal ⌝ }
+    ensures { λ r. ⌜ r ≡ slidingUnder wall lasting pushing ⌝ }
 {
     let passive = passive_force(wall);
     let friction = friction_under(wall, lasting);
     let holding = passive + friction;
-    let push = whole::above_zero(horizontal);
+    let push = whole::above_zero(pushing);
     if record::field(wall, KIND) == PROPPED {
         Sliding {
             passive: passive,

@@ -1,8 +1,8 @@
 // Document 01, "Forces": the totals, each a sum of one column of the table in which a row is weighted by its sort.
-use components::COMPONENTS;
-use components::FIRST_DEAD;
-use components::FIRST_LIVE;
-use components::Table;
+use crate::table::COMPONENTS;
+use crate::table::FIRST_DEAD;
+use crate::table::FIRST_LIVE;
+use crate::table::Table;
 use record::DIRECTION;
 use record::Load;
 use record::Loads;
@@ -134,10 +134,10 @@ pub fn totals_by(table: Table, sorts: Sorts, weights: TotalWeights) -> Totals
     ensures { λ r. ⌜ r ≡ totalsBy table sorts weights ⌝ }
 {
     Totals {
-        vertical: column_sum(table, sorts, weights[COUNTED], VERTICAL),
-        horizontal: column_sum(table, sorts, weights[COUNTED], HORIZONTAL),
-        restoring: column_sum(table, sorts, weights[RESTORED], MOMENT),
-        overturning: column_sum(table, sorts, weights[OVERTURNED], MOMENT),
-        moment: column_sum(table, sorts, weights[BALANCED], MOMENT),
+        R: column_sum(table, sorts, weights[COUNTED], VERTICAL),
+        H: column_sum(table, sorts, weights[COUNTED], HORIZONTAL),
+        Mrest: column_sum(table, sorts, weights[RESTORED], MOMENT),
+        Mot: column_sum(table, sorts, weights[OVERTURNED], MOMENT),
+        M6: column_sum(table, sorts, weights[BALANCED], MOMENT),
     }
 }

@@ -1,4 +1,6 @@
-pub mod Judged
+pub mod Counting
+pub mod Judging
+pub mod Numbers
 pub mod Once
+pub mod Passed
 pub mod PlacesOfLoads
-pub mod Records

@@ -1,22 +1,22 @@
--- The places of a wall's loads: a row is filled up with zeros, an entry's number goes into the first place that is free, and what is read at a wall's
--- row are that wall's loads. The laws that the loops cite, and the theorem for the layers above.
+-- The places of a wall's loads: an entry's number goes into the first place of its wall's row that is free, and what is read at a wall's row are that
+-- wall's loads. The laws that the loops cite, and the theorems for the layers above.
 use mathlib.Core.Path.{_≡_, refl, sym, ap, ap₂, _∙_}
-use mathlib.Core.Bool.{Bool, true, false}
 use mathlib.Core.List.{List, [], _∷_, _++_, map, append-nil}
 use Prim.Native.Nat.{ℕ, zero, suc, _+_, _-_, _≤_, _<_}
 use native.Mathlib.Omega.{arith}
+use native.Mathlib.Numerals.{add-one}
 use lib.Dec.{T, eqb}
-use lib.ListN.{length, getD, set, replicate, length-set}
-use lib.Seq.{ext-getD, getD-set-same, getD-set-other}
-use borrow.Author.Tests.{eqb-true, eqb-false, eq-eqb, ne-eqb}
+use lib.ListN.{length, getD, set, replicate}
+use lib.Seq.{ext-getD}
+use borrow.Author.Tests.{eq-eqb, ne-eqb}
 use Rattle.whole.proofs.Lists.{of-either}
-use Rattle.rules.specs.JobFile.{File, Load, Entry, wallCount, mostWalls, mostLoadsOnWall, wallAt, entryAt, entries, wallOf, loadOf, loadsOn, numbersOn, loadFits}
+use Rattle.rules.specs.JobFile.{File, Load, Entry, wallCount, mostWalls, mostLoadsOnWall, entryAt, recordsFrom, entries, wallOf, loadOf, loadsOn, numbersOn}
 use Rattle.rules.specs.Answered.{accepted}
-use Rattle.rules.proofs.AcceptedFile.{records-length, record-at, wall-count, loads-fit, few-loads}
+use Rattle.rules.proofs.AcceptedFile.{records-length, record-at, wall-count, few-loads}
 use Rattle.rules.proofs.LoadsOfWalls.{loads-are}
 use Rattle.rules.proofs.Absent.{Absent}
-use Rattle.rules.proofs.Examined.{absent-fits}
 use Rattle.job.specs.Places.{padded, noLoad, placesOn, placeTable, withPlace, loadNumbered, loadsAt}
+use Rattle.job.proofs.Passed.{passedLoads, one-more, Kept, none-kept, one-kept, still-kept}
 
 -- ---- filled up to a number
 
@@ -65,9 +65,10 @@ place-after (suc n) [] number = refl
 place-after (suc n) (k ∷ ks) number = ap (λ (rest : List ℕ). suc k ∷ rest) (place-after n ks number)
 
 -- one more entry has its number in the row of the wall that it names
-its-row : (es : List Entry) (e : Entry) (n : ℕ) → wallOf e ≡ n → placesOn (es ++ e ∷ []) n ≡ withPlace (placesOn es n) (length es + 1)
+its-row : (es : List Entry) (e : Entry) → withPlace (placesOn es (wallOf e)) (length es + 1) ≡ placesOn (es ++ e ∷ []) (wallOf e)
 unfolding placesOn numbersOn
-its-row es e n on = rw (numbers-join, eq-eqb (wallOf e) n, numbers-up n 0 es) (sym (place-after mostLoadsOnWall (numbersOn n 0 es) (length es + 1)))
+its-row es e =
+    rw (numbers-join, eq-eqb (wallOf e) (wallOf e) refl, numbers-up (wallOf e) 0 es) (place-after mostLoadsOnWall (numbersOn (wallOf e) 0 es) (length es + 1))
 
 -- and the row of any other wall stays
 other-row : (es : List Entry) (e : Entry) (n : ℕ) → (wallOf e ≡ n → ⊥) → placesOn (es ++ e ∷ []) n ≡ placesOn es n
@@ -76,48 +77,36 @@ other-row es e n off = rw (numbers-join, ne-eqb (wallOf e) n, append-nil)
 
 -- ---- the table of places
 
--- its row at an index is that of the wall whose number is one more
-row-at : (es : List Entry) (k : ℕ) → k < mostWalls → getD (placeTable es) k [] ≡ placesOn es (suc k)
-unfolding placeTable
-row-at es k h = record-at (placesOn es) 1 mostWalls k h ∙ ap (placesOn es) (omega arith)
+-- a table that goes along with the entries passed
+abbrev pub Placed : File → ℕ → List (List ℕ) → Type 0
+Placed file i table = Kept placesOn 1 mostWalls [] (passedLoads file i) table
 
--- it has a row for each wall that a file may have
-table-length : (es : List Entry) → length (placeTable es) ≡ mostWalls
-unfolding placeTable
-table-length es = records-length (placesOn es) 1 mostWalls
+pub begun : (file : File) → Placed file 0 (replicate mostWalls (replicate mostLoadsOnWall 0))
+unfolding recordsFrom placesOn padded numbersOn
+begun file = none-kept (replicate mostLoadsOnWall 0) (λ n. refl)
 
--- what has these rows is the table
-table-is : (es : List Entry) (table : List (List ℕ)) → length table ≡ mostWalls
-    → ((k : ℕ) → k < mostWalls → getD table k [] ≡ placesOn es (suc k)) → table ≡ placeTable es
-table-is es table size row =
-    ext-getD [] table (placeTable es) (size ∙ sym (table-length es)) (λ k h. row k (omega arith) ∙ sym (row-at es k (omega arith)))
+module _ (file : File) (i : ℕ) (table : List (List ℕ)) (placed : Placed file i table) where
+  module _ (entry : Entry) (its : entry ≡ entryAt file i) where
+    -- the next entry gets a place, where its wall has a row
+    pub one-placed : 1 ≤ wallOf entry → wallOf entry ≤ mostWalls → (row : List ℕ) → row ≡ withPlace (getD table (wallOf entry - 1) []) (i + 1)
+        → Placed file (i + 1) (set table (wallOf entry - 1) row)
+    one-placed low high row e =
+        let number : 1 + (wallOf entry - 1) ≡ wallOf entry = omega arith in
+        let there : wallOf entry - 1 < mostWalls = omega arith in
+        rw (add-one, one-more, ← its)
+        (one-kept other-row placed entry _ row there number (e ∙ rw (placed .row _ there, number) (rw records-length at (its-row (passedLoads file i) entry))))
 
--- one more entry has its number in the table, where the wall that it names has a row
-pub in-table : (es : List Entry) (e : Entry) → 1 ≤ wallOf e → wallOf e ≤ mostWalls
-    → set (placeTable es) (wallOf e - 1) (withPlace (getD (placeTable es) (wallOf e - 1) []) (length es + 1)) ≡ placeTable (es ++ e ∷ [])
-in-table es e low high =
-    rw (row-at es k (omega arith), ← its-row es e (suc k) (omega arith))
-    (table-is (es ++ e ∷ []) (set (placeTable es) k new) (length-set (placeTable es) k new ∙ table-length es) (λ j. row j (eqb j k) refl))
-  where
-    k : ℕ
-    k = wallOf e - 1
+    -- and otherwise none
+    pub none-placed : (1 ≤ wallOf entry → wallOf entry ≤ mostWalls → ⊥) → Placed file (i + 1) table
+    none-placed out = rw (add-one, one-more, ← its) (still-kept other-row placed entry (λ k h same. out (omega arith) (omega arith)))
 
-    new : List ℕ
-    new = placesOn (es ++ e ∷ []) (suc k)
-
-    row : (j : ℕ) (here : Bool) → eqb j k ≡ here → j < mostWalls → getD (set (placeTable es) k new) j [] ≡ placesOn (es ++ e ∷ []) (suc j)
-    row j true here l = rw (eqb-true j k here) (getD-set-same (placeTable es) k new [] (rw table-length (omega arith)))
-    row j false here l =
-        getD-set-other (placeTable es) k j new [] (eqb-false j k here)
-        ∙ row-at es j l
-        ∙ sym (other-row es e (suc j) (λ same. eqb-false j k here (omega arith)))
-
--- and where that wall has none, the table stays
-pub not-in-table : (es : List Entry) (e : Entry) → (1 ≤ wallOf e → wallOf e ≤ mostWalls → ⊥) → placeTable es ≡ placeTable (es ++ e ∷ [])
-not-in-table es e out = table-is (es ++ e ∷ []) (placeTable es) (table-length es) row
-  where
-    row : (k : ℕ) → k < mostWalls → getD (placeTable es) k [] ≡ placesOn (es ++ e ∷ []) (suc k)
-    row k h = row-at es k h ∙ sym (other-row es e (suc k) (λ same. out (omega arith) (omega arith)))
+  -- in the end it is the table of them all
+  pub all-placed : table ≡ placeTable (passedLoads file i)
+  unfolding placeTable
+  all-placed =
+      let made = placesOn (passedLoads file i) in
+      ext-getD [] table (recordsFrom made 1 mostWalls) (placed .rows ∙ sym (records-length made 1 mostWalls))
+      (λ k h. let l : k < mostWalls = omega (arith, placed .rows) in placed .row k l ∙ sym (record-at made 1 mostWalls k l))
 
 -- ---- the loads at a row of places
 
@@ -135,38 +124,25 @@ loads-at file (k ∷ ks) = ap₂ (λ (load : Load) (loads : List Load). load ∷
 -- what is read at the row of a wall's index are the wall's loads, the first eight of them, in file order, and behind the last none
 pub loads-of-wall : (file : File) (i : ℕ) → i < mostWalls
     → loadsAt file (getD (placeTable (entries file)) i []) ≡ padded noLoad mostLoadsOnWall (loadsOn (suc i) (entries file))
-unfolding loadsAt loadNumbered placesOn
-loads-of-wall file i h = rw (row-at (entries file) i h, map-padded, loads-are, numbers-up, loads-at)
+unfolding loadsAt loadNumbered placesOn placeTable
+loads-of-wall file i h =
+    let number : 1 + i ≡ suc i = omega arith in
+    rw (record-at (placesOn (entries file)) 1 mostWalls i h, number, map-padded, loads-are, numbers-up, loads-at)
 
 -- ---- what is read of an accepted file
-
--- what each of a list has, and what stands for nothing has too, each of the list filled up has
-padded-has : {A : Type 0} (p : A → Bool) (none d : A) (n : ℕ) (xs : List A) → T (p none) → ((k : ℕ) → k < length xs → T (p (getD xs k d)))
-    → (k : ℕ) → T (p (getD (padded none n xs) k none))
-unfolding padded
-padded-has p none d zero xs has all k = has
-padded-has p none d (suc n) [] has all zero = has
-padded-has p none d (suc n) [] has all (suc k) = padded-has p none d n [] has all k
-padded-has p none d (suc n) (x ∷ xs) has all zero = all 0 (omega arith)
-padded-has p none d (suc n) (x ∷ xs) has all (suc k) = padded-has p none d n xs has (λ j h. all (suc j) (omega arith)) k
 
 -- a row of zeros is an absent load
 pub absent : Absent noLoad
 absent = record { down = refl; at-toe = refl; dead = refl; live = refl }
 
 module _ (file : File) (t : T (accepted file)) (i : ℕ) (h : i < wallCount file) where
-  its : loadsAt file (getD (placeTable (entries file)) i []) ≡ padded noLoad mostLoadsOnWall (loadsOn (suc i) (entries file))
-  its = let few = wall-count file t .1 in loads-of-wall file i (omega arith)
-
   -- all of the wall's loads are read, and the other rows are absent loads
   pub rows-of-wall : loadsAt file (getD (placeTable (entries file)) i [])
       ≡ loadsOn (suc i) (entries file) ++ replicate (mostLoadsOnWall - length (loadsOn (suc i) (entries file))) noLoad
-  rows-of-wall = its ∙ padded-is noLoad mostLoadsOnWall (loadsOn (suc i) (entries file)) (few-loads file t (suc i))
+  rows-of-wall =
+      let few = wall-count file t .1 in
+      loads-of-wall file i (omega arith) ∙ padded-is noLoad mostLoadsOnWall (loadsOn (suc i) (entries file)) (few-loads file t (suc i))
 
   -- and with them there are no more than a wall may have
   pub room-for-rows : length (loadsOn (suc i) (entries file)) + (mostLoadsOnWall - length (loadsOn (suc i) (entries file))) ≤ mostLoadsOnWall
   room-for-rows = omega (arith, few-loads file t (suc i))
-
-  -- every row that is read fits the wall
-  pub rows-fit : (k : ℕ) → T (loadFits (wallAt file i) (getD (loadsAt file (getD (placeTable (entries file)) i [])) k noLoad))
-  rows-fit k = rw its (padded-has (loadFits (wallAt file i)) noLoad [] mostLoadsOnWall (loadsOn (suc i) (entries file)) (absent-fits (wallAt file i) noLoad refl refl refl refl) (loads-fit file t i h) k)

@@ -1,7 +1,8 @@
 // Little-endian numbers anywhere in a slice; a byte past its end reads as 0.
 ghost use mathlib.Core.Path.{_≡_};
-ghost use Prim.Native.Nat.{_+_, _*_, _≤_};
-ghost use Rattle.rules.specs.JobFile.{u16At, u32At};
+ghost use Prim.Native.Nat.{_+_, _*_, _^_, _<_, _≤_};
+ghost use lib.ListN.{length};
+ghost use Rattle.rules.specs.JobFile.{u16At, u32At, u32sAt};
 
 // Two halves as one number, the low one first.
 fn joined(low: u16, high: u16) -> u32
@@ -10,13 +11,20 @@ fn joined(low: u16, high: u16) -> u32
     low as u32 + 65536 * (high as u32)
 }
 
+// A byte as a number of 16 bits.
+fn wide(byte: u8) -> u16
+    ensures { λ r. ⌜ (r ≡ byte) × (r < 256) ⌝ }
+{
+    byte as u16
+}
+
 // A number of which the file has both bytes.
 fn u16_inside(file: &[u8], at: usize) -> u16
     requires { do ⌜ at + 2 ≤ (← ⟦file.len()⟧) ⌝ }
     ensures { λ r. ⌜ r ≡ u16At (now (file .entry)) at ⌝ }
 {
-    let low = file[at] as u16;
-    let high = file[at + 1] as u16;
+    let low = wide(file[at]);
+    let high = wide(file[at + 1]);
     low + 256 * high
 }
 
@@ -27,7 +35,7 @@ pub fn u16_at(file: &[u8], at: usize) -> u16
         return 0;
     }
     if file.len() - at < 2 {
-        return file[at] as u16;
+        return wide(file[at]);
     }
     u16_inside(file, at)
 }
@@ -47,4 +55,14 @@ pub fn u32_at(file: &[u8], at: usize) -> u32
     let low = u16_at(file, at);
     let high = u16_at(file, at + 2);
     joined(low, high)
+}
+
+// As many numbers as there is room for, one behind the other.
+pub fn read_u32s(file: &[u8], at: usize, numbers: &mut [u32])
+    requires { do ⌜ at + 4 * (← ⟦numbers.len()⟧) < 2 ^ 64 ⌝ }
+    ensures { λ r. ⌜ now (numbers .exit) ≡ u32sAt (now (file .entry)) at (length (now (numbers .entry))) ⌝ }
+{
+    for k in 0..numbers.len() {
+        numbers[k] = u32_at(file, at + 4 * k);
+    }
 }

@@ -11,8 +11,8 @@ use Rattle.rules.specs.declared.Drawn.{Drawn}
 use Rattle.rules.specs.declared.Shape.the-variants.{Nothing}
 use Rattle.rules.specs.JobFile.{File}
 use Rattle.rules.specs.Answered.{isWorked}
-use Rattle.rules.specs.SheetLine.{onto}
-use Rattle.rules.specs.Drawing.{Draws, undrawn, figures}
+use Rattle.rules.specs.Drawing.{Draws, undrawn}
+use Rattle.rules.specs.Beyond.{onto, figures}
 use Rattle.office.specs.Packed.{Packs, figureRoom, drawingTo, figuresAfter, DrawsPacked}
 
 module _ {file : File} {n : ℕ} {d : Drawn} (draws : Draws file n d) {before : List Float} {r : ℕ} where

@@ -1,20 +1,12 @@
--- No second answer and no second buffer fits an entry of this crate.
-use Prim.Native.Nat.{ℕ}
-use mathlib.Core.List.{List}
-use lib.IntN.{ℤ}
-use lib.Ieee.{Float}
-use Rattle.rules.specs.JobFile.{File}
-use Rattle.rules.specs.SheetLine.{Prints}
-use Rattle.rules.proofs.Once.{OnlyPair, by-equation, sheet-text}
-use Rattle.office.specs.Packed.{CalculatesPacked, DrawsPacked}
+-- Document 01, "How strictly it is promised": no second answer fits, and no second buffer, of each function for C.
+use Rattle.whole.proofs.OnlyOne.{Once, agree, lent, past}
+use Rattle.office.proofs as office
 
-pub office-calculate : (job : File) (before : List ℤ) → OnlyPair (CalculatesPacked job before)
-office-calculate job before one other after next is its =
-    (by-equation one other (is .answered .is) (its .answered .is), by-equation after next (is .holds) (its .holds))
+pub office-calculate : Once office.office_calculate.ended office.office_calculate.Reads.Asked office.office_calculate.Reads.Learnt
+office-calculate = (λ _ _. tt, λ _ _ _ _ _ _ is its. (agree (is .answered .is) (its .answered .is), past (lent (agree (is .holds) (its .holds)))))
 
-pub office-text : (job : File) (before : List ℕ) → OnlyPair (Prints job before)
-office-text = sheet-text
+pub office-text : Once office.office_text.ended office.office_text.Reads.Asked office.office_text.Reads.Learnt
+office-text = (λ _ _. tt, λ _ _ _ _ _ _ is its. (agree (is .counted) (its .counted), past (lent (agree (is .holds) (its .holds)))))
 
-pub office-drawing : (job : File) (wall : ℕ) (before : List Float) → OnlyPair (DrawsPacked job wall before)
-office-drawing job wall before one other after next is its =
-    (by-equation one other (is .answered .is) (its .answered .is), by-equation after next (is .holds) (its .holds))
+pub office-drawing : Once office.office_drawing.ended office.office_drawing.Reads.Asked office.office_drawing.Reads.Learnt
+office-drawing = (λ _ _. tt, λ _ _ _ _ _ _ is its. (agree (is .answered .is) (its .answered .is), past (past (lent (agree (is .holds) (its .holds))))))

@@ -14,8 +14,9 @@ use Rattle.rules.specs.declared.Shape.{Shape}
 use Rattle.rules.specs.declared.Shape.the-variants.{Whole, ToeTriangle, HeelTriangle, Nothing}
 use Rattle.rules.specs.JobFile.{File}
 use Rattle.rules.specs.Answered.{number, place, isWorked}
-use Rattle.rules.specs.SheetLine.{answerTo, bufferAfter, onto}
-use Rattle.rules.specs.Drawing.{undrawn, drawingFor, figures}
+use Rattle.rules.specs.SheetLine.{answerTo, bufferAfter}
+use Rattle.rules.specs.Drawing.{undrawn, drawingFor}
+use Rattle.rules.specs.Beyond.{onto, figures}
 
 abbrev pub shapeNumber : Shape → ℕ
 shapeNumber Nothing = 0

@@ -6,8 +6,7 @@ ghost use mathlib.Core.List.{[], _∷_};
 ghost use mathlib.Core.Path.{_≡_};
 ghost use Prim.Native.Nat.{_≤_};
 ghost use lib.ListN.{length};
-ghost use Rattle.rules.specs.SheetLine.{Prints, onto};
-ghost use Rattle.rules.specs.Drawing.{shapeFigures, figures};
+ghost use Rattle.rules.specs.Beyond.{Prints, onto, shapeFigures, figures};
 ghost use Rattle.office.specs.Packed.{shapeNumber, Packs, figureRoom, CalculatesPacked, DrawsPacked};
 
 // A refusal's number stands above the 32 bits of its place.
@@ -69,7 +68,7 @@ fn put_figures(drawn: Drawn, out: &mut [f64])
 {
     let drawing = drawn.drawing;
     let shape = drawn.shape;
-    put_pair(drawing.vertical, drawing.horizontal, out);
+    put_pair(drawing.R, drawing.H, out);
     out[2] = drawing.distance;
     put_shape(shape, &mut out[3..]);
 }

@@ -1,9 +1,13 @@
-// Document 01, "The job file": is a wall, is a load within range?
+// Document 01, "The job file": is a wall, is a load within range? And what is answered of one wall with its loads.
+use rules::Answer;
+use rules::BARS;
 use rules::Range;
 ghost use mathlib.Core.Path.{_≡_};
 ghost use Prim.Native.Nat.{_<_, _^_};
 ghost use lib.ListN.{getD};
-ghost use Rattle.rules.specs.JobFile.{Wall, baseLength, wallHeight, bars, among, within, firstBadField, wallFits, reach, loadFits, firstUnfit};
+ghost use Rattle.rules.specs.JobFile.{Wall, baseLength, wallHeight, bars, among, within, firstBadField, reach, loadFits};
+ghost use Rattle.rules.specs.Answered.{wallAnswer};
+ghost use Rattle.rules.specs.Beyond.{firstUnfit, examined};
 
 // A wall is a number for each of its fields, in file order.
 pub const FIELDS: usize = 31;
@@ -126,9 +130,6 @@ const RANGES: [Range; FIELDS] = [
     Range::Between(1, 5000),
 ];
 
-// The diameters that a bar can have.
-pub const BARS: [u32; 8] = [8, 10, 12, 16, 20, 25, 32, 40];
-
 // The greatest dead load, and the greatest live load, in N/m.
 const GREATEST_LOAD: u32 = 200000;
 
@@ -182,7 +183,7 @@ fn is_within(top: u64, range: Range, n: u32) -> bool
 }
 
 // The number of the first field out of range, in field order; 0 where there is none.
-pub fn first_bad_field(wall: Wall) -> usize
+fn first_bad_field(wall: Wall) -> usize
     ensures { λ r. ⌜ r ≡ firstBadField wall ⌝ }
 {
     let ranges = RANGES;
@@ -195,11 +196,15 @@ pub fn first_bad_field(wall: Wall) -> usize
     0
 }
 
-// Is every field within range?
-pub fn wall_fits(wall: Wall) -> bool
-    ensures { λ r. ⌜ r ≡ wallFits wall ⌝ }
+// 5: a wall with a field out of range is refused, at the number that it has.
+pub fn wall_answer(wall: Wall, number: u32) -> Answer
+    ensures { λ r. ⌜ r ≡ wallAnswer number wall ⌝ }
 {
-    first_bad_field(wall) == 0
+    if first_bad_field(wall) == 0 {
+        Answer::Worked
+    } else {
+        Answer::WallOutOfRange(number)
+    }
 }
 
 // How far a load can stand: a load down along the base, a horizontal one up the wall.
@@ -227,7 +232,7 @@ pub fn load_fits(wall: Wall, load: Load) -> bool
 }
 
 // The number of the first load that doesn't fit the wall, from 1; 0 where there is none.
-pub fn first_unfit(wall: Wall, loads: Loads) -> u32
+fn first_unfit(wall: Wall, loads: Loads) -> u32
     ensures { λ r. ⌜ r ≡ firstUnfit wall 1 loads ⌝ }
 {
     for i in 0..MOST_LOADS_ON_WALL {
@@ -236,4 +241,20 @@ pub fn first_unfit(wall: Wall, loads: Loads) -> u32
         }
     }
     0
+}
+
+// One wall with its loads by itself: as a file would be answered that has just these. An absent load is a row of zeros, which fits any wall.
+pub fn examined(wall: Wall, loads: Loads) -> Answer
+    ensures { λ r. ⌜ r ≡ examined wall loads ⌝ }
+{
+    let answer = wall_answer(wall, 1);
+    if !reply::is_worked(answer) {
+        return answer;
+    }
+    let unfit = first_unfit(wall, loads);
+    if unfit == 0 {
+        Answer::Worked
+    } else {
+        Answer::LoadOutOfRange(unfit)
+    }
 }

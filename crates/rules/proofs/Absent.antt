@@ -1,5 +1,5 @@
 -- Rows of absent loads behind a wall's own: an absent load has nothing but zeros, it fits any wall, and no figure of the wall tells that it is there.
-use mathlib.Core.Path.{_≡_, sym, ap, _∙_}
+use mathlib.Core.Path.{_≡_, refl, sym, ap, _∙_}
 use mathlib.Core.List.{List, [], _∷_, _++_, append-nil}
 use Prim.Native.Nat.{ℕ, zero, suc, _+_, _≤_}
 use lib.Dec.{T}
@@ -7,13 +7,12 @@ use lib.Ieee.Bits.{is-true}
 use lib.ListN.{length, replicate}
 use lib.Seq.{append-snoc}
 use Rattle.rules.specs.declared.Answer.the-variants.{Worked}
-use Rattle.rules.specs.declared.WorkedWall.{WorkedWall}
 use Rattle.rules.specs.JobFile.{Wall, Load, mostLoadsOnWall, direction, position, deadLoad, liveLoad, isDown}
-use Rattle.rules.specs.Answered.{fits}
-use Rattle.rules.specs.Forces.{Component, workedForces}
-use Rattle.rules.specs.Bearing.{serviceBlock, factoredBlock, workedBearing, bearingOf}
+use Rattle.rules.specs.Forces.{Component}
+use Rattle.rules.specs.Bearing.{serviceBlock, factoredBlock}
 use Rattle.rules.specs.ToeAndStem.{stemLoadRows, stemLoadTable, stemTable, stemAction, toe, stem}
-use Rattle.rules.specs.SheetLine.{workedWall, numbersBy, line, lineOf}
+use Rattle.rules.specs.SheetLine.{workedWall, numbersBy, line}
+use Rattle.rules.specs.Beyond.{fits, workedForces, workedBearing, bearingOf, lineOf}
 use Rattle.rules.proofs.Additive.{idle}
 use Rattle.rules.proofs.Carries.{worked-blocks}
 use Rattle.rules.proofs.Examined.{fit, fits-of, absent-fits, filled}
@@ -38,20 +37,20 @@ module _ (wall : Wall) {load : Load} (absent : Absent load) where
   stem-table [] = rw (absent .down)
   stem-table (first ∷ rest) = ap (λ (rows : List Component). stemLoadRows wall first ++ rows) (stem-table rest)
 
-  one-more : (loads : List Load) → workedWall wall (loads ++ load ∷ []) ≡ workedWall wall loads
+  one-more : (loads : List Load)
+      → (workedWall wall (loads ++ load ∷ []) ≡ workedWall wall loads) × (workedBearing wall (loads ++ load ∷ []) ≡ workedBearing wall loads)
   unfolding workedWall workedBearing workedForces serviceBlock factoredBlock toe stem stemAction stemTable
   one-more loads =
       let same = idle wall loads load (absent .dead) (absent .live) in
-      rw (same .service, same .factored, same .sliding, stem-table loads)
+      rw (same .service, same .factored, same .sliding, stem-table loads) (refl, refl)
 
   module _ (loads : List Load) (n : ℕ) where
     -- the wall is worked as it is under its own loads: each force, each block, the toe and the stem
     pub worked-same : workedWall wall (loads ++ replicate n load) ≡ workedWall wall loads
-    worked-same = repeated (workedWall wall) load one-more n loads
+    worked-same = repeated (workedWall wall) load (λ these. one-more these .0) n loads
 
     pub bearing-same : workedBearing wall (loads ++ replicate n load) ≡ workedBearing wall loads
-    unfolding workedWall
-    bearing-same = ap (λ (w : WorkedWall). w .borne) worked-same
+    bearing-same = repeated (workedBearing wall) load (λ these. one-more these .1) n loads
 
     pub line-same : (number : ℕ) → line number wall (loads ++ replicate n load) ≡ line number wall loads
     unfolding line

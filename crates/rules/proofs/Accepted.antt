@@ -1,15 +1,17 @@
 -- What it tells of a wall that its fields fit: each of the 31 lies in its range. One law serves all of them, since the ranges stand in a table.
 -- And what it tells of a load that it fits its wall.
 use mathlib.Core.Path.{_≡_, refl, sym, subst}
-use mathlib.Core.Bool.{Bool, true, false, _&&_, _||_, cond}
+use mathlib.Core.Bool.{Bool, true, false, _&&_, _||_, cond, and-eq-true-iff}
 use mathlib.Core.List.{List, [], _∷_}
 use Prim.Native.Nat.{ℕ, zero, suc, _+_, _-_, _≤_, _<_}
 use native.Mathlib.Omega.{arith}
 use lib.Dec.{T, leb, ltb, eqb, leb→le, ltb→lt, eqb→eq}
+use lib.Ieee.Bits.{is-true}
 use lib.ListN.{length, getD}
+use borrow.Author.Tests.{leb-true}
 use Rattle.rules.specs.declared.Range.{Range}
-use Rattle.rules.specs.declared.Range.the-variants.{Between, ABar}
-use Rattle.rules.specs.JobFile.{Wall, Load, wallFields, bars, among, within, baseLength, wallHeight, stemHeight, stemThickness, toeLength, heelLength, baseThickness, coverInFront, excavation, waterHeight, stemDensity, baseDensity, moistDensity, saturatedDensity, soilDensity, activeCoefficient, restCoefficient, passiveCoefficient, frictionTangent, surcharge, field, ranges, firstOutside, firstBadField, wallFits, direction, position, deadLoad, liveLoad, greatestLoad, reach, loadFits}
+use Rattle.rules.specs.declared.Range.the-variants.{Between, UpToTop, ABar}
+use Rattle.rules.specs.JobFile.{Wall, Load, wallFields, bars, among, within, baseLength, wallHeight, excavation, surcharge, field, ranges, firstOutside, firstBadField, wallFits, direction, position, deadLoad, liveLoad, greatestLoad, reach, loadFits}
 use Rattle.rules.specs.ToeAndStem.{barAreas}
 
 -- ---- tests
@@ -62,89 +64,108 @@ field-within wall fits i h =
 abbrev pub Lies : ℕ → ℕ → ℕ → Type 0
 Lies low high n = (low ≤ n) × (n ≤ high)
 
--- a field with two bounds, which the table of ranges gives
-pub field-between : (wall : Wall) → T (wallFits wall) → (i low high : ℕ) → i < wallFields → getD ranges i ABar ≡ Between low high
-    → Lies low high (getD wall i 0)
+-- what it says of a number that it is in a range
+abbrev pub InRange : Wall → Range → ℕ → Type 0
+InRange wall (Between low high) n = Lies low high n
+InRange wall UpToTop n = n ≤ wallHeight wall
+InRange wall ABar n = T (among n bars)
+
+in-range : (wall : Wall) (range : Range) (n : ℕ) → T (within wall range n) → InRange wall range n
 unfolding within
-field-between wall fits i low high h e =
-    let t : T (leb low (getD wall i 0) && leb (getD wall i 0) high) = rw e at (field-within wall fits i h) in
-    let k = both (leb low (getD wall i 0)) (leb (getD wall i 0) high) t in
-    (leb→le low (getD wall i 0) (k .0), leb→le (getD wall i 0) high (k .1))
+in-range wall (Between low high) n t = omega (arith, leb-true, simp and-eq-true-iff at (is-true (leb low n && leb n high) t))
+in-range wall UpToTop n t = leb→le n (wallHeight wall) t
+in-range wall ABar n t = t
 
--- a bar has one of the diameters, and so at most 40
-pub field-bar : (wall : Wall) → T (wallFits wall) → (i : ℕ) → i < wallFields → getD ranges i ABar ≡ ABar → T (among (getD wall i 0) bars)
-unfolding within
-field-bar wall fits i h e = rw e at (field-within wall fits i h)
+-- the range of a field, by its number, and what is known of the field
+abbrev pub rangeOf : ℕ → Range
+rangeOf number = getD ranges (number - 1) ABar
 
-pub bar-most : (bar : ℕ) → T (among bar bars) → bar ≤ 40
-bar-most bar t = leb→le bar 40 (among-has (λ n. leb n 40) bar bars tt t)
+abbrev pub Ranged : Wall → ℕ → Type 0
+Ranged wall number = InRange wall (rangeOf number) (field wall number)
 
--- each diameter has an area
+pub ranged : (wall : Wall) → T (wallFits wall) → (number : ℕ) → T (ltb (number - 1) wallFields) → Ranged wall number
+ranged wall fits number h = in-range wall (rangeOf number) (field wall number) (field-within wall fits (number - 1) (ltb→lt (number - 1) wallFields h))
+
+-- ---- limits, all of which follow from the table
+
+-- the thickest bar
+abbrev pub thickest : ℕ
+thickest = getD bars (length bars - 1) 0
+
+abbrev pub highest : Range → ℕ
+highest (Between low high) = high
+highest UpToTop = 0
+highest ABar = thickest
+
+-- the greatest that a field can be, by its number; field 9 has no number of its own
+abbrev pub most : ℕ → ℕ
+most number = highest (rangeOf number)
+
+-- the longest base has a toe, a stem and a heel of the greatest lengths, the highest wall such a stem and base
+abbrev pub longest : ℕ
+longest = most 4 + most 3 + most 5
+
+abbrev pub tallest : ℕ
+tallest = most 2 + most 6
+
+-- no bar is thicker than the thickest, and each diameter has an area
+pub bar-most : (bar : ℕ) → T (among bar bars) → bar ≤ thickest
+bar-most bar t = leb→le bar thickest (among-has (λ n. leb n thickest) bar bars tt t)
+
 pub areas-for-bars : length barAreas ≡ length bars
 areas-for-bars = refl
 
--- the water stands no higher than the wall
-pub water-below : (wall : Wall) → T (wallFits wall) → waterHeight wall ≤ wallHeight wall
-unfolding within
-water-below wall fits = leb→le (waterHeight wall) (wallHeight wall) (field-within wall fits 8 (omega arith))
-
 -- the fields of a wall that its forces read, each in its range
 pub record WallWithin (wall : Wall) : Type 0 where
-  pub stem-height : Lies 500 8000 (stemHeight wall)
-  pub stem-thickness : Lies 200 1500 (stemThickness wall)
-  pub toe-length : Lies 0 5000 (toeLength wall)
-  pub heel-length : Lies 0 5000 (heelLength wall)
-  pub base-thickness : Lies 200 1500 (baseThickness wall)
-  pub cover : Lies 0 1000 (coverInFront wall)
-  pub excavation : Lies 0 1000 (excavation wall)
-  pub water : waterHeight wall ≤ wallHeight wall
-  pub stem-density : Lies 1500 3000 (stemDensity wall)
-  pub base-density : Lies 1500 3000 (baseDensity wall)
-  pub moist-density : Lies 1000 3000 (moistDensity wall)
-  pub saturated-density : Lies 1000 3000 (saturatedDensity wall)
-  pub soil-density : Lies 1000 3000 (soilDensity wall)
-  pub active : Lies 1 1000 (activeCoefficient wall)
-  pub rest : Lies 1 1000 (restCoefficient wall)
-  pub passive : Lies 0 15000 (passiveCoefficient wall)
-  pub tangent : Lies 0 1000 (frictionTangent wall)
-  pub surcharge : Lies 0 10000 (surcharge wall)
+  pub stem-height : Ranged wall 2
+  pub stem-thickness : Ranged wall 3
+  pub toe-length : Ranged wall 4
+  pub heel-length : Ranged wall 5
+  pub base-thickness : Ranged wall 6
+  pub cover : Ranged wall 7
+  pub excavation : Ranged wall 8
+  pub water : Ranged wall 9
+  pub stem-density : Ranged wall 10
+  pub base-density : Ranged wall 11
+  pub moist-density : Ranged wall 12
+  pub saturated-density : Ranged wall 13
+  pub soil-density : Ranged wall 14
+  pub active : Ranged wall 15
+  pub rest : Ranged wall 16
+  pub passive : Ranged wall 17
+  pub tangent : Ranged wall 18
+  pub surcharge : Ranged wall 20
 
 pub wall-within : (wall : Wall) → T (wallFits wall) → WallWithin wall
 wall-within wall fits =
+    let of = ranged wall fits in
     record {
-      stem-height = of 1 tt refl;
-      stem-thickness = of 2 tt refl;
-      toe-length = of 3 tt refl;
-      heel-length = of 4 tt refl;
-      base-thickness = of 5 tt refl;
-      cover = of 6 tt refl;
-      excavation = of 7 tt refl;
-      water = water-below wall fits;
-      stem-density = of 9 tt refl;
-      base-density = of 10 tt refl;
-      moist-density = of 11 tt refl;
-      saturated-density = of 12 tt refl;
-      soil-density = of 13 tt refl;
-      active = of 14 tt refl;
-      rest = of 15 tt refl;
-      passive = of 16 tt refl;
-      tangent = of 17 tt refl;
-      surcharge = of 19 tt refl;
+      stem-height = of 2 tt;
+      stem-thickness = of 3 tt;
+      toe-length = of 4 tt;
+      heel-length = of 5 tt;
+      base-thickness = of 6 tt;
+      cover = of 7 tt;
+      excavation = of 8 tt;
+      water = of 9 tt;
+      stem-density = of 10 tt;
+      base-density = of 11 tt;
+      moist-density = of 12 tt;
+      saturated-density = of 13 tt;
+      soil-density = of 14 tt;
+      active = of 15 tt;
+      rest = of 16 tt;
+      passive = of 17 tt;
+      tangent = of 18 tt;
+      surcharge = of 20 tt;
     }
-  where
-    of : (i : ℕ) {low high : ℕ} → T (ltb i wallFields) → getD ranges i ABar ≡ Between low high → Lies low high (getD wall i 0)
-    of i {low} {high} h e = field-between wall fits i low high (ltb→lt i wallFields h) e
-
--- the longest base: a toe, a stem and a heel of the greatest lengths
-abbrev pub longest : ℕ
-longest = 11500
 
 -- the base's length and the wall's height, by those of their parts
 pub base-length : {wall : Wall} → WallWithin wall → Lies 200 longest (baseLength wall)
 unfolding baseLength
 base-length w = omega arith
 
-pub wall-height : {wall : Wall} → WallWithin wall → wallHeight wall ≤ 9500
+pub wall-height : {wall : Wall} → WallWithin wall → wallHeight wall ≤ tallest
 unfolding wallHeight
 wall-height w = omega arith
 
@@ -159,17 +180,4 @@ pub record LoadWithin (wall : Wall) (load : Load) : Type 0 where
 
 pub load-within : (wall : Wall) (load : Load) → T (loadFits wall load) → LoadWithin wall load
 unfolding loadFits
-load-within wall load fits =
-    let way = leb (direction load) 1 in
-    let place = leb (position load) (reach wall load) in
-    let dead = leb (deadLoad load) greatestLoad in
-    let live = leb (liveLoad load) greatestLoad in
-    let last = both (way && place && dead) live fits in
-    let third = both (way && place) dead (last .0) in
-    let two = both way place (third .0) in
-    record {
-      way = leb→le (direction load) 1 (two .0);
-      place = leb→le (position load) (reach wall load) (two .1);
-      dead = leb→le (deadLoad load) greatestLoad (third .1);
-      live = leb→le (liveLoad load) greatestLoad (last .1);
-    }
+load-within wall load fits = omega (arith, leb-true, simp and-eq-true-iff at (is-true (loadFits wall load) fits))

@@ -1,18 +1,20 @@
 -- What it tells of a whole job file that it is accepted: its header, its walls and its loads have passed every test. A law for each of them.
 use mathlib.Core.Path.{_≡_, refl, sym, ap, _∙_}
-use mathlib.Core.Bool.{Bool, true, false, not, _&&_, cond}
+use mathlib.Core.Bool.{Bool, true, false, not, cond, and-eq-true-iff}
 use mathlib.Core.List.{List, [], _∷_, _++_, append-nil}
 use Prim.Native.Nat.{ℕ, zero, suc, _+_, _-_, _*_, _≤_, _<_}
 use native.Mathlib.Omega.{arith}
-use lib.Dec.{T, leb, ltb, eqb, leb→le, eqb→eq, nleb→lt}
+use lib.Dec.{T, ltb, eqb, eqb→eq, nleb→lt}
+use lib.Ieee.Bits.{is-true}
 use lib.ListN.{length, getD, length-append}
 use lib.Seq.{append-snoc}
-use borrow.Author.Tests.{eqb-true}
+use borrow.Author.Tests.{eqb-true, leb-true}
+use Rattle.whole.proofs.Lists.{of-either}
 use Rattle.rules.proofs.Accepted.{both}
 use Rattle.rules.specs.declared.Answer.{Answer}
 use Rattle.rules.specs.declared.Answer.the-variants.{TooShort, WrongEdition, CountOutOfRange, WrongOffsetOrLength, WallOutOfRange, LoadOutOfRange, NinthLoad}
-use Rattle.rules.specs.JobFile.{File, Wall, Load, Entry, edition, wallCount, firstWallOffset, loadCount, firstLoadOffset, wholeLength, headerBytes, entryBytes, mostWalls, mostLoads, mostLoadsOnWall, entriesAt, wallAt, entryAt, recordsFrom, walls, entries, wallOf, loadOf, loadsOn, wallFits, loadFits}
-use Rattle.rules.specs.Answered.{isWorked, refusedIf, _orElse_, countsFit, offsetsAndLengthFit, firstBadWall, isThere, numbered, entryFits, isOneMore, firstBadLoad, firstRefusal, accepted}
+use Rattle.rules.specs.JobFile.{File, Wall, Load, Entry, edition, wallCount, loadCount, wholeLength, headerBytes, entryBytes, mostWalls, mostLoads, mostLoadsOnWall, entriesAt, wallAt, entryAt, recordsFrom, walls, entries, wallOf, loadOf, loadsOn, wallFits, loadFits}
+use Rattle.rules.specs.Answered.{isWorked, refusedIf, _orElse_, countsFit, offsetsAndLengthFit, wallAnswer, firstBadWall, isThere, numbered, entryFits, isOneMore, firstBadLoad, firstRefusal, accepted}
 
 -- ---- records in file order, and the loads of a wall among them
 
@@ -40,12 +42,8 @@ records-more f i (suc n) =
 pub loads-join : (n : ℕ) (es fs : List Entry) → loadsOn n (es ++ fs) ≡ loadsOn n es ++ loadsOn n fs
 unfolding loadsOn
 loads-join n [] fs = refl
-loads-join n (e ∷ es) fs = go (eqb (wallOf e) n) (loads-join n es fs)
-  where
-    go : (on : Bool) → loadsOn n (es ++ fs) ≡ loadsOn n es ++ loadsOn n fs
-        → cond on (loadOf e ∷ loadsOn n (es ++ fs)) (loadsOn n (es ++ fs)) ≡ cond on (loadOf e ∷ loadsOn n es) (loadsOn n es) ++ loadsOn n fs
-    go true same = ap (λ (rest : List Load). loadOf e ∷ rest) same
-    go false same = same
+loads-join n (e ∷ es) fs =
+    rw (loads-join n es fs) (sym (of-either (λ (l : List Load). l ++ loadsOn n fs) (eqb (wallOf e) n) (loadOf e ∷ loadsOn n es) (loadsOn n es)))
 
 -- the walls of a file, and its entries, are as many as its header says, and stand in the list as in the file
 pub walls-length : (file : File) → length (walls file) ≡ wallCount file
@@ -64,6 +62,10 @@ pub entry-at : (file : File) (k : ℕ) → k < loadCount file → getD (entries 
 unfolding entries
 entry-at file k h = record-at (entryAt file) 0 (loadCount file) k h ∙ ap (entryAt file) (omega arith)
 
+-- the walls that are there are numbered from 1
+pub there-is : (file : File) (n : ℕ) → T (isThere n (walls file)) → (1 ≤ n) × (n ≤ wallCount file)
+there-is file n t = omega (arith, leb-true, walls-length file, simp and-eq-true-iff at (is-true (isThere n (walls file)) t))
+
 -- ---- tests that were passed
 
 -- where the first refusal of two is none, there is neither
@@ -79,10 +81,14 @@ not-refused : (test : Bool) (refusal : Answer) → isWorked refusal ≡ false �
 not-refused true refusal e t = absurd (rw e at t)
 not-refused false refusal e t = tt
 
--- and where it would come unless something fits, that fits
-fits : (fit : Bool) (refusal : Answer) → isWorked refusal ≡ false → T (isWorked (refusedIf (not fit) refusal)) → T fit
-fits true refusal e t = tt
-fits false refusal e t = absurd (rw e at t)
+-- and where it would come unless a test holds, that test does
+pub passes : (test : Bool) (refusal : Answer) → isWorked refusal ≡ false → T (isWorked (refusedIf (not test) refusal)) → T test
+passes true refusal e t = tt
+passes false refusal e t = absurd (rw e at t)
+
+-- so with other refusals behind it: the test holds, and there are none of those
+step : (test : Bool) (refusal rest : Answer) → isWorked refusal ≡ false → T (isWorked (refusedIf (not test) refusal orElse rest)) → T test × T (isWorked rest)
+step test refusal rest e t = let h = first-worked (refusedIf (not test) refusal) rest t in (passes test refusal e (h .0), h .1)
 
 -- what tests 2 to 7 leave; test 1 asks for less than test 4
 record Passed (file : File) : Type 0 where
@@ -96,17 +102,11 @@ passed : (file : File) → T (accepted file) → Passed file
 unfolding firstRefusal
 passed file t =
     let past1 = first-worked (refusedIf (ltb (length file) headerBytes) TooShort) _ t .1 in
-    let past2 = first-worked (refusedIf (not (eqb (edition file) 1)) WrongEdition) _ past1 in
-    let past3 = first-worked (refusedIf (not (countsFit file)) CountOutOfRange) _ (past2 .1) in
-    let past4 = first-worked (refusedIf (not (offsetsAndLengthFit file)) WrongOffsetOrLength) _ (past3 .1) in
+    let past2 = step (eqb (edition file) 1) WrongEdition _ refl past1 in
+    let past3 = step (countsFit file) CountOutOfRange _ refl (past2 .1) in
+    let past4 = step (offsetsAndLengthFit file) WrongOffsetOrLength _ refl (past3 .1) in
     let past5 = first-worked (firstBadWall 1 (walls file)) _ (past4 .1) in
-    record {
-      one = fits (eqb (edition file) 1) WrongEdition refl (past2 .0);
-      counts = fits (countsFit file) CountOutOfRange refl (past3 .0);
-      offsets = fits (offsetsAndLengthFit file) WrongOffsetOrLength refl (past4 .0);
-      noBadWall = past5 .0;
-      noBadLoad = past5 .1;
-    }
+    record { one = past2 .0; counts = past3 .0; offsets = past4 .0; noBadWall = past5 .0; noBadLoad = past5 .1 }
 
 -- ---- the header
 
@@ -125,10 +125,7 @@ offsets-fit file t = passed file t .offsets
 -- there is at least one wall, and there are no more than a file may have
 pub walls-counted : (file : File) → T (countsFit file) → (1 ≤ wallCount file) × (wallCount file ≤ mostWalls)
 unfolding countsFit
-walls-counted file t =
-    let n = wallCount file in
-    let h = both (leb 1 n) (leb n mostWalls) (both (leb 1 n && leb n mostWalls) (leb (loadCount file) mostLoads) t .0) in
-    (leb→le 1 n (h .0), leb→le n mostWalls (h .1))
+walls-counted file t = omega (arith, leb-true, simp and-eq-true-iff at (is-true (countsFit file) t))
 
 pub wall-count : (file : File) → T (accepted file) → (1 ≤ wallCount file) × (wallCount file ≤ mostWalls)
 wall-count file t = walls-counted file (counts-fit file t)
@@ -136,9 +133,7 @@ wall-count file t = walls-counted file (counts-fit file t)
 -- there are no more loads than a file may have
 pub loads-counted : (file : File) → T (countsFit file) → loadCount file ≤ mostLoads
 unfolding countsFit
-loads-counted file t =
-    let n = wallCount file in
-    leb→le (loadCount file) mostLoads (both (leb 1 n && leb n mostWalls) (leb (loadCount file) mostLoads) t .1)
+loads-counted file t = omega (arith, leb-true, simp and-eq-true-iff at (is-true (countsFit file) t))
 
 pub load-count : (file : File) → T (accepted file) → loadCount file ≤ mostLoads
 load-count file t = loads-counted file (counts-fit file t)
@@ -147,11 +142,7 @@ load-count file t = loads-counted file (counts-fit file t)
 pub ends : (file : File) → T (offsetsAndLengthFit file)
     → (wholeLength file ≡ length file) × (wholeLength file ≡ entriesAt file + entryBytes * loadCount file)
 unfolding offsetsAndLengthFit
-ends file t =
-    let end = entriesAt file + entryBytes * loadCount file in
-    let starts = eqb (firstWallOffset file) headerBytes && eqb (firstLoadOffset file) (entriesAt file) in
-    let h = both (starts && eqb (wholeLength file) end) (eqb (wholeLength file) (length file)) t in
-    (eqb→eq (wholeLength file) (length file) (h .1), eqb→eq (wholeLength file) end (both starts (eqb (wholeLength file) end) (h .0) .1))
+ends file t = omega (arith, eqb-true, simp and-eq-true-iff at (is-true (offsetsAndLengthFit file) t))
 
 pub length-is : (file : File) → T (accepted file) → length file ≡ entriesAt file + entryBytes * loadCount file
 length-is file t = let h = ends file (offsets-fit file t) in sym (h .0) ∙ h .1
@@ -160,10 +151,8 @@ length-is file t = let h = ends file (offsets-fit file t) in sym (h .0) ∙ h .1
 
 -- a wall that is passed fits, and no later one is refused
 pub past-wall : (n : ℕ) (w : Wall) (ws : List Wall) → T (isWorked (firstBadWall n (w ∷ ws))) → T (wallFits w) × T (isWorked (firstBadWall (suc n) ws))
-unfolding firstBadWall
-past-wall n w ws t =
-    let h = first-worked (refusedIf (not (wallFits w)) (WallOutOfRange n)) (firstBadWall (suc n) ws) t in
-    (fits (wallFits w) (WallOutOfRange n) refl (h .0), h .1)
+unfolding wallAnswer firstBadWall
+past-wall n w ws t = step (wallFits w) (WallOutOfRange n) (firstBadWall (suc n) ws) refl t
 
 -- where no wall of a list is refused, each fits
 each-wall : (n : ℕ) (ws : List Wall) → T (isWorked (firstBadWall n ws)) → (i : ℕ) → i < length ws → T (wallFits (getD ws i []))
@@ -184,9 +173,9 @@ unfolding firstBadLoad
 past-load there before n e es t =
     let rest = firstBadLoad there (before ++ e ∷ []) (suc n) es in
     let more = refusedIf (isOneMore before e) (NinthLoad n) in
-    let h = first-worked (refusedIf (not (entryFits there e)) (LoadOutOfRange n)) (more orElse rest) t in
+    let h = step (entryFits there e) (LoadOutOfRange n) (more orElse rest) refl t in
     let k = first-worked more rest (h .1) in
-    (fits (entryFits there e) (LoadOutOfRange n) refl (h .0), not-refused (isOneMore before e) (NinthLoad n) refl (k .0), k .1)
+    (h .0, not-refused (isOneMore before e) (NinthLoad n) refl (k .0), k .1)
 
 -- where no load of a list is refused, each has a wall and fits it
 each-load : (there : List Wall) (before : List Entry) (n : ℕ) (es : List Entry) → T (isWorked (firstBadLoad there before n es))
@@ -208,10 +197,7 @@ entry-fits file t k h =
 -- every load names a wall of the file
 pub load-has-wall : (file : File) → T (accepted file) → (k : ℕ) → k < loadCount file
     → (1 ≤ wallOf (entryAt file k)) × (wallOf (entryAt file k) ≤ wallCount file)
-load-has-wall file t k h =
-    let n = wallOf (entryAt file k) in
-    let there = both (leb 1 n) (leb n (length (walls file))) (entry-fits file t k h .0) in
-    (leb→le 1 n (there .0), rw walls-length at (leb→le n (length (walls file)) (there .1)))
+load-has-wall file t k h = there-is file (wallOf (entryAt file k)) (entry-fits file t k h .0)
 
 -- what every entry that names a wall has in its load, every load of the wall has
 each-on : (p : Load → Bool) (n : ℕ) (es : List Entry)

@@ -2,17 +2,18 @@
 -- loads gives equal totals; and a load of no newtons adds nothing. All of it in service and factored, and of any wall and any lists: that they are
 -- accepted is not asked. `Perm first second` says that the one list is the other in some order.
 use mathlib.Core.Path.{_≡_}
-use mathlib.Core.Bool.{Bool, true, false, cond}
 use mathlib.Core.List.{List, [], _∷_, _++_, append-nil, Perm, perm-append-comm}
-use Prim.Native.Nat.{ℕ, _*_}
+use Prim.Native.Nat.{ℕ}
 use native.Mathlib.Nat.{zero-mul}
 use lib.IntN.{ℤ, pos, _+ℤ_, _-ℤ_, _*ℤ_, +ℤ-assoc, +ℤ-comm, +ℤ-idr, +ℤ-negℤ-cancel, *ℤ-zero}
 use lib.ListN.{getD, List·getD-map}
 use Rattle.whole.specs.Sum.{sumOf}
+use Rattle.whole.proofs.Lists.{case}
 use Rattle.whole.proofs.Sums.{sumOf-add, sumOf-joined, sumOf-map, sumOf-reordered}
 use Rattle.rules.specs.declared.Totals.{Totals}
-use Rattle.rules.specs.JobFile.{Wall, Load, isDown, position, deadLoad, liveLoad}
-use Rattle.rules.specs.Forces.{Sort, deadWeight, liveWeight, deadPush, livePush, Component, down, across, loadRow, deadRow, liveRow, loadTable, table, columnSum, totals, service, factored, lastingWeight, slidingOf}
+use Rattle.rules.specs.JobFile.{Wall, Load, activeCoefficient, restCoefficient, isDown, deadLoad, liveLoad}
+use Rattle.rules.specs.Forces.{Sort, deadWeight, liveWeight, deadPush, livePush, Component, down, across, loadRow, deadRow, liveRow, loadTable, table, vertical, horizontal, moment, columnSum, once, tenths, restores, overturns, momentOf, totals, service, factored, lastingWeight, slidingOf}
+use Rattle.rules.proofs.Moments.{balances, one-sum}
 
 -- what stands in both of two sums counts once where they are joined
 counted-once : (b s t : ℤ) → b +ℤ (s +ℤ t) ≡ (b +ℤ s) +ℤ (b +ℤ t) -ℤ b
@@ -21,11 +22,8 @@ counted-once b s t = rw (+ℤ-comm b t, ← +ℤ-assoc (b +ℤ s) t b, +ℤ-neg�
 -- a part of no newtons has a row of zeros
 empty-row : (heavy push : Sort) (part : Load → ℕ) (load : Load) → part load ≡ 0 → loadRow heavy push part load .row ≡ pos 0 ∷ pos 0 ∷ pos 0 ∷ []
 unfolding loadRow
-empty-row heavy push part load e = rw e (go (isDown load) (6 * position load))
-  where
-    go : (b : Bool) (sixfold : ℕ) → cond b (down heavy 0 sixfold) (across push 0 sixfold) .row ≡ pos 0 ∷ pos 0 ∷ pos 0 ∷ []
-    go true sixfold = rw zero-mul
-    go false sixfold = rw zero-mul
+empty-row heavy push part load e =
+    rw e (case (isDown load) _ _ (λ (c : Component). c .row ≡ pos 0 ∷ pos 0 ∷ pos 0 ∷ []) (λ down. rw zero-mul) (λ across. rw zero-mul))
 
 -- ---- the sum of any column, with its rows weighted in any way, at any K
 module _ (weight : Sort → ℤ) (column K : ℕ) (wall : Wall) where
@@ -71,23 +69,42 @@ module _ (weight : Sort → ℤ) (column K : ℕ) (wall : Wall) where
 
 -- the whole is the first and the second added, less the bare wall's
 pub record Adds (whole first second bare : Totals) : Type 0 where
-  pub vertical : whole .vertical ≡ first .vertical +ℤ second .vertical -ℤ bare .vertical
-  pub horizontal : whole .horizontal ≡ first .horizontal +ℤ second .horizontal -ℤ bare .horizontal
-  pub restoring : whole .restoring ≡ first .restoring +ℤ second .restoring -ℤ bare .restoring
-  pub overturning : whole .overturning ≡ first .overturning +ℤ second .overturning -ℤ bare .overturning
-  pub moment : whole .moment ≡ first .moment +ℤ second .moment -ℤ bare .moment
+  pub R : whole .R ≡ first .R +ℤ second .R -ℤ bare .R
+  pub H : whole .H ≡ first .H +ℤ second .H -ℤ bare .H
+  pub Mrest : whole .Mrest ≡ first .Mrest +ℤ second .Mrest -ℤ bare .Mrest
+  pub Mot : whole .Mot ≡ first .Mot +ℤ second .Mot -ℤ bare .Mot
+  pub M6 : whole .M6 ≡ first .M6 +ℤ second .M6 -ℤ bare .M6
 
--- the totals in service add
+-- the totals add, however their rows count and at any K
+module _ (counts : Sort → ℤ) (K : ℕ) (wall : Wall) (first second : List Load) where
+  abbrev under : List Load → Totals
+  under loads = totals counts (table K wall loads)
+
+  by-rows : Adds (under (first ++ second)) (under first) (under second) (under [])
+  unfolding totals
+  by-rows =
+      record {
+        R = column-adds counts vertical K wall first second;
+        H = column-adds counts horizontal K wall first second;
+        Mrest = column-adds (λ s. counts s *ℤ restores s) moment K wall first second;
+        Mot = column-adds (λ s. counts s *ℤ overturns s) moment K wall first second;
+        M6 = rw (sum (first ++ second), sum first, sum second, sum []) (column-adds (λ s. counts s *ℤ balances s) moment K wall first second);
+      }
+    where
+      sum : (loads : List Load) → under loads .M6 ≡ momentOf counts balances (table K wall loads)
+      sum loads = one-sum counts (table K wall loads)
+
+-- in service
 pub service-adds : (wall : Wall) (first second : List Load)
     → Adds (service wall (first ++ second)) (service wall first) (service wall second) (service wall [])
-unfolding service totals
-service-adds wall first second = search column-adds
+unfolding service
+service-adds wall = by-rows once (activeCoefficient wall) wall
 
--- and the factored totals
+-- and factored
 pub factored-adds : (wall : Wall) (first second : List Load)
     → Adds (factored wall (first ++ second)) (factored wall first) (factored wall second) (factored wall [])
-unfolding factored totals
-factored-adds wall first second = search column-adds
+unfolding factored
+factored-adds wall = by-rows tenths (restCoefficient wall) wall
 
 -- ---- lists that give the same
 

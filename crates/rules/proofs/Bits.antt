@@ -22,8 +22,8 @@ use Rattle.rules.specs.declared.Section.{Section}
 use Rattle.rules.specs.declared.Member.{Member}
 use Rattle.rules.specs.declared.Totals.{Totals}
 use Rattle.rules.specs.JobFile.{Wall, Load, kind, toeLength, allowableBearing}
-use Rattle.rules.specs.Forces.{squared, service, passive, friction, isPropped, slidingUnder, slidingOf, workedForces}
-use Rattle.rules.specs.Bearing.{serviceScale, reported, noBlock, ofKind, blockOf, given, blockUnder, serviceBlock, factoredBlock, isGivenKind, pressedBy, workedBearing}
+use Rattle.rules.specs.Forces.{squared, service, passive, friction, isPropped, slidingUnder, slidingOf}
+use Rattle.rules.specs.Bearing.{serviceScale, reported, noBlock, ofKind, blockOf, given, blockUnder, serviceBlock, factoredBlock, isGivenKind, pressedBy}
 use Rattle.rules.specs.ToeAndStem.{toeWorked, toeAction, stemAction, toeSection, stemSection, twiceDepth, needsCompression, providedArea, requiredArea, steelFails, shearFails, memberUnder, noMember, toeUnder, toe, stem}
 use Rattle.rules.specs.SheetLine.{workedWall, failsBy, fails, bit, checks, bitsAmong, failuresBy, failures, isSet}
 
@@ -102,39 +102,25 @@ module _ (picks : Check → Bool) where
   check-at n (check ∷ rest) h (suc k) t =
       let e : n * 2 ^ suc k ≡ 2 * n * 2 ^ k = rw doubled (omega arith) in rw e (check-at (2 * n) rest (h .1) k t)
 
--- a byte has the bits of the checks that a test picks, and no other
-record Tells (byte : ℕ) (picks : Check → Bool) : Type 0 where
-  one-byte : byte < 256
-  each : (check : Check) → isSet byte check ≡ picks check
-  only : (k : ℕ) → byte / 2 ^ k % 2 ≡ 1 → (check : Check) × (bit check ≡ 2 ^ k) × T (picks check)
-
-tells : (picks : Check → Bool) → Tells (bitsAmong checks picks) picks
-tells picks =
-    record {
-      one-byte = omega (arith, digits-of picks 1 checks doubling, digits-below (map picks checks));
-      each = bit-picked picks;
-      only = λ k e. let found = check-at picks 1 checks doubling k (rw (← digit-picked picks k, e) tt) in (found .0, omega arith, found .2);
-    }
-
 -- ---- what document 01 says of each check
 
 -- steel fails under a moment M: compression steel would be needed, or less is provided than required
 abbrev pub SteelShort : Section → ℕ → Type 0
-SteelShort s M = (39 * s .concrete * squared (twiceDepth s) < M) ⊎ (providedArea (s .bar) (s .spacing) < requiredArea s M)
+SteelShort s M = (39 * s .concrete * squared (twiceDepth s) < M) ⊎ (providedArea (s .cage .bar) (s .cage .spacing) < requiredArea s M)
 
 -- a shear breaks one of its three tests
 abbrev pub ShearBroken : Section → ℕ → Type 0
 ShearBroken s shear =
     let D = twiceDepth s in
-    (s .stress * D ≤ 2 * shear) ⊎ (5000 * D < 2 * shear) ⊎ (64 * s .concrete * squared (1000 * D) < 100 * squared (2 * shear))
+    (s .cage .stress * D ≤ 2 * shear) ⊎ (5000 * D < 2 * shear) ⊎ (64 * s .concrete * squared (1000 * D) < 100 * squared (2 * shear))
 
 -- the toe is checked: there is one, and a factored block under it
 abbrev pub ToeChecked : Wall → List Load → Type 0
 ToeChecked wall loads = (0 < toeLength wall) × (factoredBlock wall loads .kind ≢ NoBlock)
 
 abbrev pub Stated : Check → Wall → List Load → Type 0
-Stated Slides wall loads = (kind wall ≢ 1) × (pos (passive wall + friction wall loads) <ℤ service wall loads .horizontal)
-Stated Overturns wall loads = service wall loads .restoring <ℤ service wall loads .overturning
+Stated Slides wall loads = (kind wall ≢ 1) × (pos (passive wall + friction wall loads) <ℤ service wall loads .H)
+Stated Overturns wall loads = service wall loads .Mrest <ℤ service wall loads .Mot
 Stated OverAllowable wall loads =
     (1000 * allowableBearing wall < reported serviceScale (serviceBlock wall loads .toe))
     ⊎ (1000 * allowableBearing wall < reported serviceScale (serviceBlock wall loads .heel))
@@ -152,10 +138,6 @@ Stated Sheared wall loads =
 record Passed (test : Bool) (Fact : Type 0) : Type 0 where
   passed : T test ↔ Fact
 
--- it fails just where a fact holds
-record Failed (test : Bool) (Fact : Type 0) : Type 0 where
-  failed : T (not test) ↔ Fact
-
 is-less : {m n : ℕ} → Passed (ltb m n) (m < n)
 is-less {m} {n} = record { passed = (ltb→lt m n, lt→ltb m n) }
 
@@ -167,17 +149,17 @@ less-than-either {n} {a} {b} =
     let less : (n < max a b) ↔ ((n < a) ⊎ (n < b)) = (λ h. dite (decLt n a) inl (λ k. inr (omega arith)), ⊎-elim (λ h. omega arith) (λ h. omega arith)) in
     record { passed = Iff·trans (is-less .passed) less }
 
-not-less : {m n : ℕ} → Failed (ltb m n) (n ≤ m)
-not-less {m} {n} = record { failed = (nltb→le m n, le→nltb m n) }
+not-less : {m n : ℕ} → Passed (not (ltb m n)) (n ≤ m)
+not-less {m} {n} = record { passed = (nltb→le m n, le→nltb m n) }
 
-not-most : {m n : ℕ} → Failed (leb m n) (n < m)
-not-most {m} {n} = record { failed = (nleb→lt m n, lt→nleb m n) }
+not-most : {m n : ℕ} → Passed (not (leb m n)) (n < m)
+not-most {m} {n} = record { passed = (nleb→lt m n, lt→nleb m n) }
 
-not-equal : {m n : ℕ} → Failed (eqb m n) (m ≢ n)
-not-equal {m} {n} = record { failed = (λ t e. T-not (eqb m n) t (rw (eq-eqb m n e) tt), λ h. rw (ne-eqb m n h) tt) }
+not-equal : {m n : ℕ} → Passed (not (eqb m n)) (m ≢ n)
+not-equal {m} {n} = record { passed = (λ t e. T-not (eqb m n) t (rw (eq-eqb m n e) tt), λ h. rw (ne-eqb m n h) tt) }
 
-not-given : {k : Kind} → Failed (isGivenKind k) (k ≡ NoBlock)
-not-given {k} = record { failed = (none k, λ e. rw e tt) }
+not-given : {k : Kind} → Passed (not (isGivenKind k)) (k ≡ NoBlock)
+not-given {k} = record { passed = (none k, λ e. rw e tt) }
   where
     none : (k : Kind) → T (not (isGivenKind k)) → k ≡ NoBlock
     none Full t = absurd t
@@ -186,13 +168,9 @@ not-given {k} = record { failed = (none k, λ e. rw e tt) }
     none NoBlock t = refl
 
 -- tests made of tests
-module _ {A : Type 0} where
-  negated : {a : Bool} → Failed a A → Passed (not a) A
-  negated f = record { passed = f .failed }
-
-  unless : {a : Bool} → Failed a A → Passed a (A → ⊥)
-  unless {a = true} f = record { passed = (λ t. f .failed .1, λ n. tt) }
-  unless {a = false} f = record { passed = (λ t. absurd t, λ n. n (f .failed .0 tt)) }
+unless : {A : Type 0} {a : Bool} → Passed (not a) A → Passed a (A → ⊥)
+unless {a = true} f = record { passed = (λ t. f .passed .1, λ n. tt) }
+unless {a = false} f = record { passed = (λ t. absurd t, λ n. n (f .passed .0 tt)) }
 
 module _ {A B : Type 0} where
   or : {a b : Bool} → Passed a A → Passed b B → Passed (a || b) (A ⊎ B)
@@ -203,19 +181,19 @@ module _ {A B : Type 0} where
   and {a = true} f g = record { passed = (λ t. (f .passed .0 tt, g .passed .0 t), λ p. g .passed .1 (p .1)) }
   and {a = false} f g = record { passed = (λ t. absurd t, λ p. f .passed .1 (p .0)) }
 
-  not-both : {a b : Bool} → Failed a A → Failed b B → Failed (a && b) (A ⊎ B)
-  not-both {a = true} f g = record { failed = or (negated f) (negated g) .passed }
-  not-both {a = false} f g = record { failed = or (negated f) (negated g) .passed }
-
 -- ---- each check
 
 steel-short : (s : Section) (M : ℕ) → Passed (steelFails s M) (SteelShort s M)
 unfolding steelFails needsCompression
 steel-short s M = or is-less is-less
 
+not-both : (a b : Bool) → not (a && b) ≡ not a || not b
+not-both true b = refl
+not-both false b = refl
+
 shear-broken : (s : Section) (shear : ℕ) → Passed (shearFails s shear) (ShearBroken s shear)
 unfolding shearFails
-shear-broken s shear = rw and-assoc (negated (not-both not-less (not-both not-most not-most)))
+shear-broken s shear = rw (and-assoc, not-both, not-both) (or not-less (or not-most not-most))
 
 -- a check of a member that may not be there: it isn't made of one that isn't
 check-if : (check : Member → Bool) → check noMember ≡ false → (b : Bool) (m : Member) → check (cond b m noMember) ≡ (b && check m)
@@ -229,12 +207,12 @@ module _ (wall : Wall) (loads : List Load) where
 
   -- so each check's test is passed just where its words hold
   decided : (check : Check) → Passed (fails check wall loads) (Stated check wall loads)
-  unfolding workedWall failsBy workedBearing workedForces pressedBy slidingOf slidingUnder isPropped toe toeUnder stem memberUnder
-  decided Slides = and (negated not-equal) is-lessℤ
+  unfolding workedWall failsBy pressedBy slidingOf slidingUnder isPropped toe toeUnder stem memberUnder
+  decided Slides = and not-equal is-lessℤ
   decided Overturns = is-lessℤ
   decided OverAllowable = less-than-either
-  decided NoServiceBlock = negated not-given
-  decided NoFactoredBlock = negated not-given
+  decided NoServiceBlock = not-given
+  decided NoFactoredBlock = not-given
   decided ToeSteel = rw (check-if (λ m. m .steel .fails) refl) (and toe-checked (steel-short _ _))
   decided StemSteel = steel-short _ _
   decided Sheared = rw (check-if (λ m. m .sheared) refl) (or (and toe-checked (shear-broken _ _)) (shear-broken _ _))
@@ -249,17 +227,18 @@ module _ (wall : Wall) (loads : List Load) where
   -- a check's bit is set just where its words hold
   pub bits : (check : Check) → T (isSet (failures wall loads) check) ↔ Stated check wall loads
   unfolding failuresBy
-  bits check = rw (tells failing .each check) (stated check)
+  bits check = rw (bit-picked failing check) (stated check)
 
   -- failures are one byte
   pub one-byte : failures wall loads < 256
   unfolding failuresBy
-  one-byte = tells failing .one-byte
+  one-byte = omega (arith, digits-of failing 1 checks doubling, digits-below (map failing checks))
 
   -- and a bit that is set is that of a check whose words hold
   pub nothing-else : (k : ℕ) → failures wall loads / 2 ^ k % 2 ≡ 1 → (check : Check) × (bit check ≡ 2 ^ k) × Stated check wall loads
   unfolding failuresBy
-  nothing-else k e = let found = tells failing .only k e in (found .0, found .1, stated (found .0) .0 (found .2))
+  nothing-else k e =
+      let found = check-at failing 1 checks doubling k (rw (← digit-picked failing k, e) tt) in (found .0, omega arith, stated (found .0) .0 (found .2))
 
 -- ---- a block that isn't given
 
@@ -281,7 +260,7 @@ no-pressure scale t wall e = rw (nothing _ _ _ _ _ e) (omega arith)
 -- so no service pressure is over the allowable where no service block is given
 pub clear-without-block : (wall : Wall) (loads : List Load) → T (isSet (failures wall loads) NoServiceBlock)
     → isSet (failures wall loads) OverAllowable ≡ false
-unfolding failuresBy serviceBlock workedWall failsBy workedBearing pressedBy
+unfolding failuresBy serviceBlock workedWall failsBy pressedBy
 clear-without-block wall loads t =
     let none = no-pressure serviceScale (service wall loads) wall (bits wall loads NoServiceBlock .0 t) in
-    tells (failing wall loads) .each OverAllowable ∙ rw (none .0, none .1) (le-ltb (1000 * allowableBearing wall) 0 (omega arith))
+    bit-picked (failing wall loads) OverAllowable ∙ rw (none .0, none .1) (le-ltb (1000 * allowableBearing wall) 0 (omega arith))

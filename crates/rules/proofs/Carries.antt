@@ -12,15 +12,16 @@ use lib.IntN.{ℤ, pos, negsuc, natAbs, _+ℤ_, _-ℤ_, _*ℤ_, +ℤ-idr, +ℤ-c
 use lib.Signed.{leZ, _≤ℤ_, _<ℤ_, ≤ℤ-refl, <ℤ-≤ℤ-trans, clashℤ, leZ-yes, ltZ-yes}
 use Rattle.whole.specs.Parts.{aboveZero, belowZero}
 use Rattle.whole.proofs.Integer.{itself, diff-sub, diff-mul, diff-eq, eq-diff, diff-le, diff-lt, lt-diff, lt-parts, *ℤ-idr, ≤ℤ-of-<ℤ, ≤ℤ-trans, ≤ℤ-<ℤ-trans, <ℤ-trans, le-leZ, lt-leZ, ltZ-leZ, ≤ℤ-or-<ℤ, pos-≤ℤ, pos-<ℤ, sub-nonneg, sub-above, Whole, whole, is-whole, Above, above, is-above, nonneg-factor}
+use Rattle.whole.proofs.Lists.{case}
 use Rattle.rules.specs.declared.Fraction.{Fraction}
 use Rattle.rules.specs.declared.Kind.{Kind}
 use Rattle.rules.specs.declared.Kind.the-variants.{Full, FromToe, FromHeel, NoBlock}
 use Rattle.rules.specs.declared.Block.{Block}
 use Rattle.rules.specs.declared.Totals.{Totals}
 use Rattle.rules.specs.JobFile.{Wall, Load, baseLength}
-use Rattle.rules.specs.Answered.{fits}
-use Rattle.rules.specs.Forces.{service, factored, workedForces, forcesOf}
-use Rattle.rules.specs.Bearing.{_over_, overOne, plus, minus, times, Same, Proper, Triangle, HasKind, StraightLine, carried, sixMomentsAs, sixMoments, SameBlock, isNone, isFull, isFromToe, isFromHeel, kindOf, noBlock, ofKind, blockOf, serviceScale, factoredScale, peak, greatestPeak, given, blockUnder, serviceBlock, factoredBlock, isGiven, pressedBy, workedBearing, bearingOf}
+use Rattle.rules.specs.Forces.{service, factored}
+use Rattle.rules.specs.Bearing.{_over_, overOne, plus, minus, times, Same, Proper, Triangle, HasKind, StraightLine, carried, sixMomentsAs, sixMoments, SameBlock, isNone, isFull, isFromToe, isFromHeel, kindOf, noBlock, ofKind, blockOf, serviceScale, factoredScale, peak, greatestPeak, given, blockUnder, serviceBlock, factoredBlock, isGiven, pressedBy}
+use Rattle.rules.specs.Beyond.{fits, workedForces, forcesOf, workedBearing, bearingOf}
 use Rattle.rules.proofs.Accepted.{wall-within, base-length}
 use Rattle.rules.proofs.Examined.{fit}
 use Rattle.rules.proofs.Sizes.{Sized, heaviest, heaviestFactored, service-sized, factored-sized}
@@ -295,29 +296,33 @@ module _ (R M6 l : ℤ) (hR : pos 0 <ℤ R) (hl : pos 0 <ℤ l) where
   unfolding blockOf
   block-bears some less = bears some less (kindOf R M6 l) (kind-makes (kindOf R M6 l) .0 refl)
 
+-- what the block of each kind has, the one that is given has; where it isn't given, it is the one of no kind
+pub given-has : (P : Block → Type 0) (scale : ℕ) (R M6 l : ℤ) → ((k : Kind) → P (ofKind k R M6 l)) → P (given scale (blockOf R M6 l))
+unfolding given blockOf ofKind
+given-has P scale R M6 l each = case (leb (peak scale (blockOf R M6 l)) greatestPeak) _ _ P (λ low. each (kindOf R M6 l)) (λ high. each NoBlock)
+
 -- a block that is given bears
 pub given-bears : (scale : ℕ) (R M6 l : ℤ) → pos 0 <ℤ R → pos 0 <ℤ l → M6 <ℤ (pos 6 *ℤ R *ℤ l) → T (isGiven (given scale (blockOf R M6 l)))
     → Bears R M6 l (given scale (blockOf R M6 l))
 unfolding given blockOf ofKind
-given-bears scale R M6 l hR hl less = go (leb (peak scale (blockOf R M6 l)) greatestPeak)
-  where
-    go : (b : Bool) → T (isGiven (cond b (blockOf R M6 l) noBlock)) → Bears R M6 l (cond b (blockOf R M6 l) noBlock)
-    go true t = ⊎-elim (λ h. absurd (rw (kind-makes R M6 l hR hl NoBlock .1 h) at t)) (λ h. block-bears R M6 l hR hl h less) (≤ℤ-or-<ℤ M6 (pos 0))
-    go false t = absurd t
+given-bears scale R M6 l hR hl less =
+    case (leb (peak scale (blockOf R M6 l)) greatestPeak) (blockOf R M6 l) noBlock (λ b. T (isGiven b) → Bears R M6 l b)
+    (λ low t. ⊎-elim (λ h. absurd (rw (kind-makes R M6 l hR hl NoBlock .1 h) at t)) (λ h. block-bears R M6 l hR hl h less) (≤ℤ-or-<ℤ M6 (pos 0)))
+    (λ high t. absurd t)
 
 -- ---- an accepted wall: some weight rests on its base and stands within it, so that N is above 0 where a heel triangle is taken
 
 module _ (wall : Wall) (loads : List Load) (accepted : T (fits wall loads)) where
   sized-bears : (scale most : ℕ) (t : Totals) → Sized (pos (baseLength wall)) most t → T (isGiven (blockUnder scale t wall))
-      → Bears (t .vertical) (t .moment) (pos (baseLength wall)) (blockUnder scale t wall)
+      → Bears (t .R) (t .M6) (pos (baseLength wall)) (blockUnder scale t wall)
   unfolding blockUnder
   sized-bears scale most t s =
       let long = base-length (wall-within wall (fit wall loads accepted .wall-fits)) in
-      given-bears scale (t .vertical) (t .moment) (pos (baseLength wall)) (s .some) (pos-<ℤ .1 (omega arith)) (s .on-base)
+      given-bears scale (t .R) (t .M6) (pos (baseLength wall)) (s .some) (pos-<ℤ .1 (omega arith)) (s .on-base)
 
   -- R is above 0, and so is N = 6Rl - M6, in service and factored
   abbrev pub Standing : Totals → Type 0
-  Standing t = (pos 0 <ℤ t .vertical) × (pos 0 <ℤ (pos 6 *ℤ t .vertical *ℤ pos (baseLength wall) -ℤ t .moment))
+  Standing t = (pos 0 <ℤ t .R) × (pos 0 <ℤ (pos 6 *ℤ t .R *ℤ pos (baseLength wall) -ℤ t .M6))
 
   pub service-above : Standing (service wall loads)
   service-above = let s = service-sized wall loads (fit wall loads accepted) in (s .some, sub-above (s .on-base))
@@ -327,13 +332,13 @@ module _ (wall : Wall) (loads : List Load) (accepted : T (fits wall loads)) wher
 
   -- the service block, where it is given, bears the totals in service
   pub service-bears : T (isGiven (serviceBlock wall loads))
-      → Bears (service wall loads .vertical) (service wall loads .moment) (pos (baseLength wall)) (serviceBlock wall loads)
+      → Bears (service wall loads .R) (service wall loads .M6) (pos (baseLength wall)) (serviceBlock wall loads)
   unfolding serviceBlock
   service-bears = sized-bears serviceScale heaviest (service wall loads) (service-sized wall loads (fit wall loads accepted))
 
   -- and the factored block the factored totals
   pub factored-bears : T (isGiven (factoredBlock wall loads))
-      → Bears (factored wall loads .vertical) (factored wall loads .moment) (pos (baseLength wall)) (factoredBlock wall loads)
+      → Bears (factored wall loads .R) (factored wall loads .M6) (pos (baseLength wall)) (factoredBlock wall loads)
   unfolding factoredBlock
   factored-bears = sized-bears factoredScale heaviestFactored (factored wall loads) (factored-sized wall loads (fit wall loads accepted))
 
@@ -350,9 +355,5 @@ pub refused-blocks : (wall : Wall) (loads : List Load) → fits wall loads ≡ f
 unfolding bearingOf forcesOf blockUnder blockOf kindOf isNone ofKind given
 refused-blocks wall loads e = rw e (none serviceScale, none factoredScale)
   where
-    either : (b : Bool) → cond b noBlock noBlock ≡ noBlock
-    either true = refl
-    either false = refl
-
     none : (scale : ℕ) → pressedBy scale (given scale noBlock) ≡ pressedBy scale noBlock
-    none scale = ap (pressedBy scale) (either (leb (peak scale noBlock) greatestPeak))
+    none scale = case (leb (peak scale noBlock) greatestPeak) _ _ (λ b. pressedBy scale b ≡ pressedBy scale noBlock) (λ low. refl) (λ high. refl)

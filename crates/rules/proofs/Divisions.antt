@@ -22,8 +22,11 @@ use Rattle.rules.proofs.Sizes.{Small}
 
 -- ---- one division
 
--- a small number's double has the number's value
-value : (z : ℤ) → Small (natAbs z) → HasValue (ofInt binary64 z) (not (nonNeg z)) (natAbs z) 1
+-- a double holds a whole number: it has just the number's value
+abbrev pub Held : ℤ → Type 0
+Held z = HasValue (ofInt binary64 z) (not (nonNeg z)) (natAbs z) 1
+
+value : (z : ℤ) → Small (natAbs z) → Held z
 unfolding ofInt
 value (pos n) h = round-whole binary64 false n (omega arith)
 value (negsuc n) h = round-whole binary64 true (suc n) (omega arith)
@@ -53,6 +56,18 @@ rounded-once (pos m) (pos n) h k some = divides _ _ _ _ m n (pos-<ℤ .0 some) (
 rounded-once (negsuc m) (pos n) h k some = divides _ _ _ _ (suc m) n (pos-<ℤ .0 some) (value (negsuc m) h) (value (pos n) k)
 rounded-once a (negsuc n) h k some = absurd (some .lt)
 
+-- a figure is one division of two whole numbers that doubles hold, the second above 0: the exact fraction, rounded once to the nearest double
+pub record OneDivision (a b : ℤ) (figure : Float) : Type 0 where
+  pub divided : figure ≡ quotient a b
+  pub dividend : Held a
+  pub divisor : Held b
+  pub some : pos 0 <ℤ b
+  pub rounded : figure ≡ round binary64 (not (nonNeg a)) (natAbs a) (natAbs b)
+
+pub one-division : (a b : ℤ) → Small (natAbs a) → Small (natAbs b) → pos 0 <ℤ b → OneDivision a b (quotient a b)
+one-division a b h k some =
+    record { divided = refl; dividend = value a h; divisor = value b k; some = some; rounded = rounded-once a b h k some }
+
 -- ---- no NaN
 
 abbrev pub IsNumber : Float → Type 0
@@ -73,5 +88,5 @@ units-number s q k =
 pub rounded : (s : Bool) (a b : ℕ) → IsNumber (round binary64 s a b)
 rounded s a b = rw round-is (units-number s _ _)
 
-pub quotient-number : (a b : ℤ) → Small (natAbs a) → Small (natAbs b) → pos 0 <ℤ b → IsNumber (quotient a b)
-quotient-number a b h k some = rw (rounded-once a b h k some) (rounded (not (nonNeg a)) (natAbs a) (natAbs b))
+pub division-number : {a b : ℤ} {figure : Float} → OneDivision a b figure → IsNumber figure
+division-number {a} {b} d = rw (d .rounded) (rounded (not (nonNeg a)) (natAbs a) (natAbs b))

@@ -1,14 +1,14 @@
--- Document 01, "The bearing block": what is answered where a drawing is asked for, and that no figure of a drawing is a NaN.
-use mathlib.Core.Path.{_≡_}
-use mathlib.Core.Bool.{Bool, true, false, not}
+-- Document 01, "The bearing block": what is answered where a drawing is asked for, that each figure of a drawing is its own exact fraction, rounded once, and that
+-- none is a NaN.
+use mathlib.Core.Path.{_≡_, refl}
+use mathlib.Core.Bool.{true, false, not}
 use mathlib.Core.List.{List}
-use Prim.Native.Nat.{ℕ, zero, suc, _-_, _≤_, _<_}
+use Prim.Native.Nat.{ℕ, zero, suc, _-_, _<_}
 use native.Mathlib.Omega.{arith}
-use lib.Dec.{T, leb, leb→le, lit<}
-use lib.Ieee.{ofInt}
+use lib.Dec.{T, lit<}
+use lib.Ieee.{Float, ofInt}
 use lib.Ieee.Bits.{is-true}
-use lib.IntN.{ℤ, pos, natAbs, _*ℤ_}
-use lib.ListN.{length}
+use lib.IntN.{ℤ, pos, natAbs, _-ℤ_, _*ℤ_}
 use lib.Signed.{_<ℤ_, ltZ-yes}
 use borrow.Author.Tests.{le-leb}
 use Rattle.whole.proofs.Integer.{pos-<ℤ, Above, above, is-above}
@@ -16,17 +16,22 @@ use Rattle.whole.proofs.Lists.{All, case}
 use Rattle.rules.specs.declared.Answer.{Answer}
 use Rattle.rules.specs.declared.Answer.the-variants.{Worked, NoSuchWall}
 use Rattle.rules.specs.declared.Block.{Block}
+use Rattle.rules.specs.declared.Drawn.{Drawn}
+use Rattle.rules.specs.declared.Fraction.{Fraction}
 use Rattle.rules.specs.declared.Kind.{Kind}
 use Rattle.rules.specs.declared.Kind.the-variants.{Full, FromToe, FromHeel, NoBlock}
-use Rattle.rules.specs.JobFile.{File, Wall, Load, wallCount, wallAt, walls, entries, loadsOn}
-use Rattle.rules.specs.Answered.{isWorked, refusedIf, isThere, firstRefusal, accepted, fits}
+use Rattle.rules.specs.declared.Shape.{Shape}
+use Rattle.rules.specs.declared.Shape.the-variants.{Whole, ToeTriangle, HeelTriangle, Nothing}
+use Rattle.rules.specs.declared.Totals.{Totals}
+use Rattle.rules.specs.JobFile.{File, Wall, Load, wallCount, wallAt, walls, entries, loadsOn, baseLength}
+use Rattle.rules.specs.Answered.{isWorked, refusedIf, isThere, numbered, firstRefusal, accepted}
 use Rattle.rules.specs.Forces.{service}
-use Rattle.rules.specs.Bearing.{serviceBlock, isGivenKind}
-use Rattle.rules.specs.Drawing.{inThousands, drawingOf, shapeBy, shapeOf, answerToDrawing, drawn, undrawn, drawingFor, shapeFigures, figures}
-use Rattle.rules.proofs.Accepted.{both}
-use Rattle.rules.proofs.AcceptedFile.{walls-length, wall-at, first-worked}
-use Rattle.rules.proofs.Carries.{service-above, service-bears}
-use Rattle.rules.proofs.Divisions.{IsNumber, rounded, quotient-number}
+use Rattle.rules.specs.Bearing.{ofKind, serviceScale, reported, peak, given, blockUnder, serviceBlock, isGiven}
+use Rattle.rules.specs.Drawing.{inThousands, drawingOf, shapeBy, shapeOf, answerToDrawing, drawn, undrawn, drawingFor}
+use Rattle.rules.specs.Beyond.{fits, shapeFigures, figures}
+use Rattle.rules.proofs.AcceptedFile.{walls-length, wall-at, first-worked, there-is, passes}
+use Rattle.rules.proofs.Carries.{given-has, service-above, service-bears}
+use Rattle.rules.proofs.Divisions.{OneDivision, one-division, IsNumber, rounded, division-number}
 use Rattle.rules.proofs.Doubles.{Shaped, divided, shaped}
 use Rattle.rules.proofs.Examined.{fit, wall-of-file}
 use Rattle.rules.proofs.Sizes.{Small}
@@ -62,59 +67,105 @@ module _ (file : File) where
     unfolding drawingFor
     wall-drawn = rw answered
 
--- only a wall that is there is drawn
-drawable : (file : File) (n : ℕ) → T (isWorked (answerToDrawing file n)) → T (accepted file) × (1 ≤ n) × (n ≤ wallCount file)
-unfolding answerToDrawing
-drawable file n t =
-    let h = first-worked (firstRefusal file) (refusedIf (not (isThere n (walls file))) (NoSuchWall n)) t in
-    let there = both (leb 1 n) (leb n (length (walls file))) (go (isThere n (walls file)) (h .1)) in
-    (h .0, leb→le 1 n (there .0), rw walls-length at (leb→le n (length (walls file)) (there .1)))
-  where
-    go : (b : Bool) → T (isWorked (refusedIf (not b) (NoSuchWall n))) → T b
-    go true t = tt
-    go false t = t
+-- ---- every figure
 
--- ---- no NaN
+-- N/m2 by 1000, of a pressure as it is reported
+abbrev pub InKilo : Fraction → Float → Type 0
+InKilo pressure figure = OneDivision (pos (reported serviceScale pressure)) (pos 1000) figure
 
--- what is divided by 1000
-thousandth : (z : ℤ) → Small (natAbs z) → IsNumber (inThousands z)
-thousandth z h = quotient-number z (pos 1000) h (lit< tt) (ltZ-yes tt)
+-- each case of the shape has its own figures of the block that totals make on a base of length l
+abbrev pub ShapeFigured : Totals → ℤ → Block → Shape → Type 0
+ShapeFigured t l b (Whole toe heel) = (b .kind ≡ Full) × InKilo (b .toe) toe × InKilo (b .heel) heel
+ShapeFigured t l b (ToeTriangle peak contact) = (b .kind ≡ FromToe) × InKilo (b .toe) peak × OneDivision (t .M6) (pos 2 *ℤ t .R) contact
+ShapeFigured t l b (HeelTriangle peak contact) =
+    (b .kind ≡ FromHeel) × InKilo (b .heel) peak × OneDivision (pos 6 *ℤ t .R *ℤ l -ℤ t .M6) (pos 2 *ℤ t .R) contact
+ShapeFigured t l b Nothing = b .kind ≡ NoBlock
 
--- a block's shape, where what its contact stands over is above 0
-shape-numbers : (b : Block) → Shaped b → (k : Kind) → (T (isGivenKind k) → pos 0 <ℤ b .contact .under) → All IsNumber (shapeFigures (shapeBy k b))
-unfolding shapeFigures shapeBy
-shape-numbers b s Full some = (thousandth _ (s .toe), (thousandth _ (s .heel), tt))
-shape-numbers b s FromToe some = (thousandth _ (s .toe), (quotient-number _ _ (s .over) (s .under) (some tt), tt))
-shape-numbers b s FromHeel some = (thousandth _ (s .heel), (quotient-number _ _ (s .over) (s .under) (some tt), tt))
-shape-numbers b s NoBlock some = tt
+-- newtons by 1000, M6 by 6R, and the shape's own
+pub record Figured (wall : Wall) (loads : List Load) (d : Drawn) : Type 0 where
+  pub R : OneDivision (service wall loads .R) (pos 1000) (d .drawing .R)
+  pub H : OneDivision (service wall loads .H) (pos 1000) (d .drawing .H)
+  pub distance : OneDivision (service wall loads .M6) (pos 6 *ℤ service wall loads .R) (d .drawing .distance)
+  pub shape : ShapeFigured (service wall loads) (pos (baseLength wall)) (serviceBlock wall loads) (d .shape)
+
+thousandth : (z : ℤ) → Small (natAbs z) → OneDivision z (pos 1000) (inThousands z)
+thousandth z h = one-division z (pos 1000) h (lit< tt) (ltZ-yes tt)
 
 -- 6R is above 0 where R is
 six-above : {R : ℤ} → Above R → pos 0 <ℤ (pos 6 *ℤ R)
 six-above (above n h) = pos-<ℤ .1 (omega arith)
 
--- a wall that fits with its loads
-wall-numbers : (wall : Wall) (loads : List Load) → T (fits wall loads)
-    → All IsNumber (figures (record { answer = Worked; drawing = drawingOf (service wall loads); shape = shapeOf (serviceBlock wall loads) }))
-unfolding figures drawingOf shapeOf
-wall-numbers wall loads worked =
+module _ (t : Totals) (l : ℤ) where
+  -- a block has its shape's figures, where what its contact stands over is above 0
+  abbrev HasFigures : Block → Type 0
+  HasFigures b = Shaped b → (T (isGiven b) → pos 0 <ℤ b .contact .under) → ShapeFigured t l b (shapeOf b)
+
+  kind-figured : (k : Kind) → HasFigures (ofKind k (t .R) (t .M6) l)
+  unfolding ofKind shapeOf shapeBy
+  kind-figured Full s some = (refl, thousandth _ (s .toe), thousandth _ (s .heel))
+  kind-figured FromToe s some = (refl, thousandth _ (s .toe), one-division _ _ (s .over) (s .under) (some tt))
+  kind-figured FromHeel s some = (refl, thousandth _ (s .heel), one-division _ _ (s .over) (s .under) (some tt))
+  kind-figured NoBlock s some = refl
+
+-- a wall that is there fits with its loads
+there-fits : (file : File) → T (accepted file) → (n : ℕ) → T (isThere n (walls file)) → T (fits (numbered n (walls file)) (loadsOn n (entries file)))
+there-fits file t zero there = absurd there
+there-fits file t (suc i) there =
+    let index : suc i - 1 ≡ i = omega arith in
+    let h : i < wallCount file = omega (arith, there-is file (suc i) there) in
+    rw (index, wall-at file i h) (wall-of-file file t i h)
+
+drawn-figured : (file : File) (n : ℕ) → T (accepted file) → T (isThere n (walls file))
+    → Figured (numbered n (walls file)) (loadsOn n (entries file)) (drawn file n)
+unfolding drawn drawingOf serviceBlock blockUnder
+drawn-figured file n t there =
+    let wall = numbered n (walls file) in
+    let loads = loadsOn n (entries file) in
+    let worked = there-fits file t n there in
     let small = fit wall loads worked in
     let d = divided wall loads small in
-    let sixfold = six-above (is-above (service-above wall loads worked .0)) in
-    let shape = shape-numbers (serviceBlock wall loads) (shaped wall loads small) _ (λ t. service-bears wall loads worked t .straight .proper .contact) in
-    (thousandth _ (d .vertical), (thousandth _ (d .horizontal), (quotient-number _ _ (d .moment) (d .sixfold) sixfold, shape)))
+    record {
+      R = thousandth _ (d .R);
+      H = thousandth _ (d .H);
+      distance = one-division _ _ (d .M6) (d .sixfold) (six-above (is-above (service-above wall loads worked .0)));
+      shape = given-has (HasFigures (service wall loads) _) serviceScale _ _ _ (kind-figured (service wall loads) _) (shaped wall loads small) (λ given. service-bears wall loads worked given .straight .proper .contact);
+    }
 
-drawn-numbers : (file : File) (n : ℕ) → T (accepted file) → 1 ≤ n → n ≤ wallCount file → All IsNumber (figures (drawn file n))
-drawn-numbers file zero t low high = absurd (omega arith)
-drawn-numbers file (suc i) t low high = rw (drawn-is file t i (omega arith)) (wall-numbers _ _ (wall-of-file file t i (omega arith)))
+-- each figure of a drawing, of any wall that an accepted file has, is its own exact fraction, rounded once
+pub each-figure : (file : File) (n : ℕ) → T (accepted file) → T (isThere n (walls file))
+    → Figured (numbered n (walls file)) (loadsOn n (entries file)) (drawingFor file n)
+unfolding drawingFor answerToDrawing
+each-figure file n t there = rw (is-true (accepted file) t, is-true (isThere n (walls file)) there) (drawn-figured file n t there)
+
+-- ---- no NaN
+
+shape-numbers : (t : Totals) (l : ℤ) (b : Block) (s : Shape) → ShapeFigured t l b s → All IsNumber (shapeFigures s)
+unfolding shapeFigures
+shape-numbers t l b (Whole toe heel) f = (division-number (f .1), (division-number (f .2), tt))
+shape-numbers t l b (ToeTriangle peak contact) f = (division-number (f .1), (division-number (f .2), tt))
+shape-numbers t l b (HeelTriangle peak contact) f = (division-number (f .1), (division-number (f .2), tt))
+shape-numbers t l b Nothing f = tt
+
+drawn-numbers : (wall : Wall) (loads : List Load) (d : Drawn) → Figured wall loads d → All IsNumber (figures d)
+unfolding figures
+drawn-numbers wall loads d f =
+    (division-number (f .R), (division-number (f .H), (division-number (f .distance), shape-numbers _ _ _ _ (f .shape))))
 
 -- a refusal's figures
 undrawn-numbers : (refusal : Answer) → All IsNumber (figures (undrawn refusal))
 unfolding figures undrawn shapeFigures ofInt
 undrawn-numbers refusal = let none = rounded false 0 1 in (none, (none, (none, tt)))
 
+-- only a wall that is there is drawn
+drawable : (file : File) (n : ℕ) → T (isWorked (answerToDrawing file n)) → T (accepted file) × T (isThere n (walls file))
+unfolding answerToDrawing
+drawable file n t =
+    let h = first-worked (firstRefusal file) (refusedIf (not (isThere n (walls file))) (NoSuchWall n)) t in
+    (h .0, passes (isThere n (walls file)) (NoSuchWall n) refl (h .1))
+
 -- whatever is asked for, no figure that is answered is a NaN
 pub never-nan : (file : File) (n : ℕ) → All IsNumber (figures (drawingFor file n))
 unfolding drawingFor
 never-nan file n =
     case (isWorked (answerToDrawing file n)) _ _ (λ d. All IsNumber (figures d))
-    (λ t. let h = drawable file n t in drawn-numbers file n (h .0) (h .1) (h .2)) (λ t. undrawn-numbers _)
+    (λ t. let h = drawable file n t in drawn-numbers _ _ _ (drawn-figured file n (h .0) (h .1))) (λ t. undrawn-numbers _)

@@ -11,8 +11,9 @@ use borrow.Author.Tests.{le-ltb, lt-ltb, lt-leb, eq-eqb}
 use Rattle.whole.proofs.Lists.{All, all-joined, all-apart, all-of}
 use Rattle.rules.specs.declared.Answer.{Answer}
 use Rattle.rules.specs.declared.Answer.the-variants.{Worked, WallOutOfRange, LoadOutOfRange}
-use Rattle.rules.specs.JobFile.{File, Wall, Load, Entry, headerBytes, edition, wallCount, mostLoadsOnWall, wallAt, walls, entries, loadsOn, wallFits, direction, position, deadLoad, liveLoad, loadFits, firstUnfit}
-use Rattle.rules.specs.Answered.{isWorked, refusedIf, _orElse_, countsFit, offsetsAndLengthFit, firstBadWall, entryFits, isOneMore, firstBadLoad, firstRefusal, accepted, alone, examined, fits}
+use Rattle.rules.specs.JobFile.{File, Wall, Load, Entry, headerBytes, edition, wallCount, mostLoadsOnWall, wallAt, walls, entries, loadsOn, wallFits, direction, position, deadLoad, liveLoad, loadFits}
+use Rattle.rules.specs.Answered.{isWorked, refusedIf, _orElse_, countsFit, offsetsAndLengthFit, wallAnswer, firstBadWall, entryFits, isOneMore, firstBadLoad, firstRefusal, accepted}
+use Rattle.rules.specs.Beyond.{firstUnfit, alone, examined, fits}
 use Rattle.rules.proofs.AcceptedFile.{loads-join, first-worked, walls-fit, past-wall, past-load, loads-fit, few-from, few-loads}
 
 -- each load fits the wall
@@ -56,8 +57,8 @@ module _ (wall : Wall) where
 
   -- a wall with no more loads than it may have is examined by itself, and then load after load
   pub examined-is : (loads : List Load) → length loads ≤ mostLoadsOnWall
-      → examined wall loads ≡ refusedIf (not (wallFits wall)) (WallOutOfRange 1) orElse refusedLoad (firstUnfit wall 1 loads)
-  unfolding examined firstBadWall loadsOn
+      → examined wall loads ≡ (wallAnswer 1 wall orElse refusedLoad (firstUnfit wall 1 loads))
+  unfolding examined wallAnswer firstBadWall loadsOn
   examined-is loads few = rw (never-ninth [] 0 loads (omega arith)) (go (wallFits wall) (refusedLoad (firstUnfit wall 1 loads)))
     where
       go : (fits : Bool) (rest : Answer)
@@ -94,6 +95,7 @@ module _ (wall : Wall) where
 
   -- and where this is so, they are worked
   pub worked : (loads : List Load) → Fit wall loads → examined wall loads ≡ Worked
+  unfolding wallAnswer
   worked loads f = rw (examined-is loads (f .few), is-true (wallFits wall) (f .wall-fits), none-unfit 1 loads (f .loads-fit))
 
   -- so that the test of them holds

@@ -2,7 +2,7 @@
 use Prim.Native.Nat.{ℕ, zero, suc, _+_, _*_, _≤_, _<_}
 use native.Mathlib.Omega.{arith}
 use mathlib.Core.Path.{_≡_, refl, ap, _∙_}
-use mathlib.Core.Bool.{Bool, true, _&&_}
+use mathlib.Core.Bool.{Bool}
 use mathlib.Core.List.{List, [], _∷_, _++_}
 use lib.Dec.{T, ltb, leb→le}
 use lib.IntN.{ℤ, pos}
@@ -15,11 +15,11 @@ use Rattle.whole.specs.Sum.{sumOf}
 use Rattle.rules.specs.declared.Answer.{Answer}
 use Rattle.rules.specs.declared.Answer.the-variants.{Worked}
 use Rattle.rules.specs.JobFile.{File, Wall, wallCount, u16At, u32At, u32sAt, entriesAt, wallAt, recordsFrom, walls, entries, loadsOn, baseLength, wallHeight, among, within, firstOutside, firstBadField, wallFits}
-use Rattle.rules.specs.Answered.{accepted, countsFit, offsetsAndLengthFit, firstBadWall, firstBadLoad, firstRefusal}
-use Rattle.rules.specs.Forces.{saturatedHeight, stemWeight, baseWeight, saturatedWeight, moistWeight, surchargeWeight, weightRows, pushRows, loadTable, table, columnSum, totals, service, workedForces}
-use Rattle.rules.specs.Bearing.{workedBearing}
-use Rattle.rules.specs.SheetLine.{lineNumbers, workedWall, numbersBy, line, linesFrom, sheet, joined, answerTo, bufferAfter, Calculates, digit, digits, decimal, signedDecimal, hexDigits, lineRest, lineText, printed, sheetRoom, onto, Prints}
-use Rattle.rules.proofs.Accepted.{both}
+use Rattle.rules.specs.Answered.{accepted, countsFit, offsetsAndLengthFit, wallAnswer, firstBadWall, firstBadLoad, firstRefusal}
+use Rattle.rules.specs.Forces.{saturatedHeight, stemWeight, baseWeight, saturatedWeight, moistWeight, surchargeWeight, weightRows, pushRows, loadTable, table, columnSum, totals, service}
+use Rattle.rules.specs.SheetLine.{lineNumbers, workedWall, numbersBy, line, linesFrom, sheet, joined, answerTo, bufferAfter, Calculates, digit, digits, decimal, signedDecimal, hexDigits, lineRest, lineText, printed}
+use Rattle.rules.specs.Beyond.{sheetRoom, onto, Prints}
+use Rattle.rules.proofs.Accepted.{both, every}
 use Rattle.rules.proofs.Fitting.{fits}
 use Rattle.rules.proofs.LongInput.{IsByte}
 use Rattle.rules.proofs.Points.{u16s, u32s, caseA, wallA}
@@ -54,8 +54,7 @@ blank = replicate sheetRoom 0
 
 -- is every number of a list a byte?
 abbrev areBytes : List ℕ → Bool
-areBytes [] = true
-areBytes (n ∷ rest) = ltb n 256 && areBytes rest
+areBytes = every (λ n. ltb n 256)
 
 -- what the rules make of it, and of case A
 record WorkedOut : Type 0 where
@@ -72,7 +71,7 @@ record WorkedOut : Type 0 where
   case-A-bytes : T (areBytes caseA)
 
 worked-out : WorkedOut
-unfolding twoWalls u16At u32At u32sAt entriesAt wallAt recordsFrom walls entries loadsOn baseLength wallHeight among within firstOutside firstBadField wallFits countsFit offsetsAndLengthFit firstBadWall firstBadLoad firstRefusal saturatedHeight stemWeight baseWeight saturatedWeight moistWeight surchargeWeight weightRows pushRows loadTable table columnSum totals service workedForces workedBearing workedWall numbersBy line linesFrom sheet joined answerTo bufferAfter digits decimal signedDecimal hexDigits lineRest lineText printed roundedNearest sumOf
+unfolding twoWalls u16At u32At u32sAt entriesAt wallAt recordsFrom walls entries loadsOn baseLength wallHeight among within firstOutside firstBadField wallFits countsFit offsetsAndLengthFit wallAnswer firstBadWall firstBadLoad firstRefusal saturatedHeight stemWeight baseWeight saturatedWeight moistWeight surchargeWeight weightRows pushRows loadTable table columnSum totals service workedWall numbersBy line linesFrom sheet joined answerTo bufferAfter digits decimal signedDecimal hexDigits lineRest lineText printed roundedNearest sumOf
 worked-out =
     record { answered = refl; passes = tt; bytes = tt; two = refl; one = refl; low = refl; high = refl; case-A = refl; low-printed = refl; case-A-printed = refl; case-A-bytes = tt }
 
@@ -108,14 +107,14 @@ all-bytes : (list : List ℕ) → T (areBytes list) → All IsByte list
 all-bytes [] t = tt
 all-bytes (n ∷ rest) t = let h = both (ltb n 256) (areBytes rest) t in (leb→le (suc n) 256 (h .0), all-bytes rest (h .1))
 
-all-zeros : (n : ℕ) → All (SFits w64) (replicate n (pos 0))
-all-zeros zero = tt
-all-zeros (suc n) = (record { sfits = omega arith }, all-zeros n)
+all-same : {A : Type 0} (P : A → Type 0) (x : A) → P x → (n : ℕ) → All P (replicate n x)
+all-same P x has zero = tt
+all-same P x has (suc n) = (has, all-same P x has n)
 
 -- so it is where the job above hasn't this
 told : (Has : File → List ℤ → List ℤ → Type 0) → (Has twoWalls lent after → ⊥) → NoVersion Has
 told Has hasNot v meets each =
-    let may : Given twoWalls lent = (all-bytes twoWalls (worked-out .bytes), all-zeros 32) in
+    let may : Given twoWalls lent = (all-bytes twoWalls (worked-out .bytes), all-same (SFits w64) (pos 0) (record { sfits = omega arith }) 32) in
     let call = meets twoWalls lent may in
     hasNot (rw (call .holds) at (each twoWalls lent may (call .answered ∙ worked-out .answered)))
 
@@ -140,9 +139,8 @@ still-there [] rest i n is = absurd (omega (arith, is))
 still-there (x ∷ xs) rest zero n is = is
 still-there (x ∷ xs) rest (suc i) n is = still-there xs rest i n is
 
-all-blank : (n : ℕ) → All IsByte (replicate n 0)
-all-blank zero = tt
-all-blank (suc n) = (omega arith, all-blank n)
+all-blank : All IsByte blank
+all-blank = all-same IsByte 0 (omega arith) sheetRoom
 
 -- so it is in what is left of a blank buffer
 in-print : (p : Printer) → MeetsText p → (file : File) → All IsByte file → (n : ℕ) → leading (printed file) ≡ suc n
@@ -150,7 +148,7 @@ in-print : (p : Printer) → MeetsText p → (file : File) → All IsByte file �
 unfolding onto
 in-print p meets file bytes n is =
     let room : sheetRoom ≤ length blank = omega (arith, length-replicate {A = ℕ} sheetRoom 0) in
-    ap leading (meets file blank bytes (all-blank sheetRoom) .holds)
+    ap leading (meets file blank bytes all-blank .holds)
     ∙ ap (λ (text : List ℕ). leading (onto text blank)) (fits sheetRoom (printed file) blank room)
     ∙ still-there (printed file) (drop (length (printed file)) blank) 5 n is
 
@@ -158,7 +156,7 @@ pub case-A-for-all : (p : Printer) → MeetsText p
     → ((file : File) (before : List ℕ) → All IsByte file → All IsByte before → T (accepted file) → p .leaves file before ≡ p .leaves caseA before) → ⊥
 case-A-for-all p meets idle =
     let two = all-bytes twoWalls (worked-out .bytes) in
-    let same : leading (p .leaves twoWalls blank) ≡ leading (p .leaves caseA blank) = ap leading (idle twoWalls blank two (all-blank sheetRoom) (worked-out .passes)) in
+    let same : leading (p .leaves twoWalls blank) ≡ leading (p .leaves caseA blank) = ap leading (idle twoWalls blank two all-blank (worked-out .passes)) in
     let low = in-print p meets twoWalls two 56 (worked-out .low-printed) in
     let one = in-print p meets caseA (all-bytes caseA (worked-out .case-A-bytes)) 48 (worked-out .case-A-printed) in
     omega (arith, same, low, one)

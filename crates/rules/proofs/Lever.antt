@@ -1,17 +1,18 @@
 -- Document 01, "Toe and stem", of the lever arm: it passes the three tests, no greater number does, and wherever compression steel isn't needed there is one.
 use mathlib.Core.Path.{_≡_, refl, subst}
 use mathlib.Core.Logic.{⊎-elim}
-use mathlib.Core.Bool.{Bool, true, false, not, _&&_}
+use mathlib.Core.Bool.{Bool, true, false, not, and-eq-true-iff}
 use Prim.Native.Nat.{ℕ, zero, suc, _+_, _-_, _*_, _/_, _≤_, _<_}
 use native.Mathlib.Nat.{eq-or-lt-of-le, mul-le-mul-left}
 use native.Mathlib.Omega.{arith}
-use borrow.Author.Tests.{le-leb}
-use lib.Dec.{T, leb, leb→le, nltb→le, lit<}
+use borrow.Author.Tests.{le-leb, leb-true}
+use lib.Dec.{T, nltb→le}
+use lib.Ieee.Bits.{is-true}
 use Rattle.rules.specs.declared.Section.{Section}
-use Rattle.rules.specs.JobFile.{Wall, wallFits, stemThickness, baseThickness, toeCover, toeBar, stemCover, stemBar}
+use Rattle.rules.specs.JobFile.{Wall, wallFits, toeBar, stemBar}
 use Rattle.rules.specs.Forces.{squared}
 use Rattle.rules.specs.ToeAndStem.{toeSection, stemSection, twiceDepth, needsCompression, bears, greatest, leverArm}
-use Rattle.rules.proofs.Accepted.{both, field-between, field-bar, bar-most}
+use Rattle.rules.proofs.Accepted.{ranged, bar-most}
 
 -- the three tests of a lever arm, as document 01 has them
 pub record Bears (M fcu D Z : ℕ) : Type 0 where
@@ -21,10 +22,7 @@ pub record Bears (M fcu D Z : ℕ) : Type 0 where
 
 tested : (M fcu D Z : ℕ) → T (bears M fcu D Z) → Bears M fcu D Z
 unfolding bears
-tested M fcu D Z t =
-    let h = both (leb (20 * Z) (19 * D) && leb D (2 * Z)) (leb M (225 * fcu * Z * (D - Z))) t in
-    let k = both (leb (20 * Z) (19 * D)) (leb D (2 * Z)) (h .0) in
-    record { high = leb→le (20 * Z) (19 * D) (k .0); low = leb→le D (2 * Z) (k .1); strong = leb→le M (225 * fcu * Z * (D - Z)) (h .1) }
+tested M fcu D Z t = omega (arith, leb-true, simp and-eq-true-iff at (is-true (bears M fcu D Z) t))
 
 passes : (M fcu D Z : ℕ) → Bears M fcu D Z → T (bears M fcu D Z)
 unfolding bears
@@ -90,21 +88,14 @@ lever-exists M fcu D h k = lever-keeps M fcu D (D - D / 2) (half-bears M fcu D h
 
 -- ---- the sections of an accepted wall
 
-deep : (thickness cover bar : ℕ) → 200 ≤ thickness → cover ≤ 75 → bar ≤ 40 → 210 ≤ 2 * thickness - 2 * cover - bar
-deep thickness cover bar h k l = omega arith
-
--- D is at least 210
-pub toe-depth : (wall : Wall) → T (wallFits wall) → 210 ≤ twiceDepth (toeSection wall)
+-- D is at least 2
+pub toe-depth : (wall : Wall) → T (wallFits wall) → 2 ≤ twiceDepth (toeSection wall)
 unfolding twiceDepth
-toe-depth wall fits =
-    deep (baseThickness wall) (toeCover wall) (toeBar wall) (field-between wall fits 5 200 1500 (lit< tt) refl .0)
-    (field-between wall fits 23 20 75 (lit< tt) refl .1) (bar-most (toeBar wall) (field-bar wall fits 24 (lit< tt) refl))
+toe-depth wall fits = let of = ranged wall fits in omega (arith, of 6 tt, of 24 tt, bar-most (toeBar wall) (of 25 tt))
 
-pub stem-depth : (wall : Wall) → T (wallFits wall) → 210 ≤ twiceDepth (stemSection wall)
+pub stem-depth : (wall : Wall) → T (wallFits wall) → 2 ≤ twiceDepth (stemSection wall)
 unfolding twiceDepth
-stem-depth wall fits =
-    deep (stemThickness wall) (stemCover wall) (stemBar wall) (field-between wall fits 2 200 1500 (lit< tt) refl .0)
-    (field-between wall fits 26 20 75 (lit< tt) refl .1) (bar-most (stemBar wall) (field-bar wall fits 27 (lit< tt) refl))
+stem-depth wall fits = let of = ranged wall fits in omega (arith, of 3 tt, of 27 tt, bar-most (stemBar wall) (of 28 tt))
 
 -- unless a moment needs compression steel, the section's lever arm keeps the three tests
 abbrev pub HasLever : Section → Type 0
@@ -117,7 +108,7 @@ unfolding needsCompression
 deep-lever s h M t = lever-exists M (s .concrete) (twiceDepth s) h (nltb→le (39 * s .concrete * squared (twiceDepth s)) M t)
 
 pub toe-lever : (wall : Wall) → T (wallFits wall) → HasLever (toeSection wall)
-toe-lever wall fits = deep-lever (toeSection wall) (omega (arith, toe-depth wall fits))
+toe-lever wall fits = deep-lever (toeSection wall) (toe-depth wall fits)
 
 pub stem-lever : (wall : Wall) → T (wallFits wall) → HasLever (stemSection wall)
-stem-lever wall fits = deep-lever (stemSection wall) (omega (arith, stem-depth wall fits))
+stem-lever wall fits = deep-lever (stemSection wall) (stem-depth wall fits)

@@ -2,7 +2,6 @@ pub mod Absent
 pub mod Accepted
 pub mod AcceptedFile
 pub mod Additive
-pub mod Begun
 pub mod Bits
 pub mod Carries
 pub mod Divisions
@@ -15,10 +14,12 @@ pub mod Lever
 pub mod Lines
 pub mod LoadsOfWalls
 pub mod LongInput
-pub mod Once
+pub mod Moments
+pub mod NoBlock
 pub mod Points
 pub mod Pressures
 pub mod Putting
+pub mod Replies
 pub mod Roundings
 pub mod Sections
 pub mod Sizes

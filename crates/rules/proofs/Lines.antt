@@ -19,10 +19,11 @@ use Rattle.rules.specs.declared.Section.{Section}
 use Rattle.rules.specs.declared.Action.{Action}
 use Rattle.rules.specs.declared.Member.{Member}
 use Rattle.rules.specs.JobFile.{Wall, Load, stemHeight, toeLength, baseThickness, restCoefficient, baseLength, wallHeight, isDown, position, deadLoad, liveLoad, reach}
-use Rattle.rules.specs.Forces.{saturatedHeight, Component, deadPush, livePush, across, pushRows, horizontal, moment, columnSum, tenths, passive, frictionUnder, lastingWeight, isPropped, slidingUnder, slidingOf, proppingForce, workedForces}
-use Rattle.rules.specs.Bearing.{serviceScale, greatestPeak, blockUnder, serviceBlock, factoredBlock, pressedBy, workedBearing}
-use Rattle.rules.specs.ToeAndStem.{pressureAt, twiceArm, toeWorked, shearOfBearing, momentOfBearing, toeAction, stemLoadRows, stemLoadTable, stemTable, stemAction, toeSection, stemSection, isWorkable, memberUnder, toeUnder, toe, stem}
+use Rattle.rules.specs.Forces.{saturatedHeight, Component, deadPush, livePush, across, pushRows, horizontal, moment, columnSum, tenths, passive, frictionUnder, lastingWeight, isPropped, slidingUnder, slidingOf, proppingForce}
+use Rattle.rules.specs.Bearing.{serviceScale, greatestPeak, blockUnder, serviceBlock, factoredBlock, pressedBy}
+use Rattle.rules.specs.ToeAndStem.{pressureAt, twiceArm, toeWorked, shearOfBearing, momentOfBearing, toeAction, stemLoadRows, stemLoadTable, stemTable, stemAction, toeSection, stemSection, memberUnder, toeUnder, toe, stem}
 use Rattle.rules.specs.SheetLine.{workedWall, numbersBy, line}
+use Rattle.rules.specs.Beyond.{isWorkable}
 use Rattle.rules.proofs.Accepted.{WallWithin, wall-within, longest, wall-height, LoadWithin, load-within}
 use Rattle.rules.proofs.Examined.{AllFit, Fit}
 use Rattle.rules.proofs.Bits.{one-byte}
@@ -143,7 +144,7 @@ unfolding slidingOf slidingUnder
 propping-small wall loads fit =
     let passive-force : pos 0 ≤ℤ pos (passive wall) = pos-≤ℤ .1 (omega arith) in
     let friction : pos 0 ≤ℤ pos (frictionUnder wall (lastingWeight wall loads)) = pos-≤ℤ .1 (omega arith) in
-    let H = service-sized wall loads fit .horizontal .1 in
+    let H = service-sized wall loads fit .H .1 in
     case (isPropped wall) _ _ Small (λ t. above-less _ (lit< tt) (sub-<ℤ friction (sub-<ℤ passive-force H))) (λ t. omega arith)
 
 -- the pressures that the service block reports
@@ -153,11 +154,11 @@ service-most wall loads = given-most serviceScale _
 
 -- every number of an accepted wall's line is small, where the wall's own number is
 pub line-small : {wall : Wall} {loads : List Load} (n : ℕ) → Small n → Fit wall loads → All (λ z. Small (natAbs z)) (line n wall loads)
-unfolding line numbersBy workedWall workedBearing workedForces pressedBy
+unfolding line numbersBy workedWall pressedBy
 line-small {wall} {loads} n h fit =
     let s = service-sized wall loads fit in
-    let R = abs-less (≤ℤ-of-<ℤ (s .some)) (s .vertical) in
-    let H = abs-less (s .horizontal .0) (s .horizontal .1) in
+    let R = abs-less (≤ℤ-of-<ℤ (s .some)) (s .R) in
+    let H = abs-less (s .H .0) (s .H .1) in
     let served = service-most wall loads in
     let pressed = reported-most (factored-pressable wall loads fit) in
-    omega (arith, one-byte wall loads, propping-small wall loads fit, s .moment, toe-small wall loads fit, stem-small wall loads fit)
+    omega (arith, one-byte wall loads, propping-small wall loads fit, s .M6, toe-small wall loads fit, stem-small wall loads fit)

@@ -1,12 +1,13 @@
 -- Which loads a wall has: those that name it, in file order. So none is lost between two walls, and none is on both.
-use mathlib.Core.Path.{_≡_, refl, sym, ap, ap₂, _∙_}
+use mathlib.Core.Path.{_≡_, refl, sym, ap, _∙_}
 use mathlib.Core.Bool.{Bool, true, false, _||_, cond}
 use mathlib.Core.List.{List, [], _∷_, map}
 use Prim.Native.Nat.{ℕ, zero, suc, _+_, _-_, _≤_, _<_}
 use native.Mathlib.Omega.{arith}
 use lib.Dec.{T, eqb, eqb→eq}
 use lib.ListN.{length, getD}
-use borrow.Author.Tests.{eqb-true, eq-eqb}
+use borrow.Author.Tests.{eq-eqb}
+use Rattle.whole.proofs.Lists.{of-either, case}
 use Rattle.rules.proofs.Accepted.{either}
 use Rattle.rules.proofs.AcceptedFile.{entry-at, entries-length, load-has-wall}
 use Rattle.rules.specs.JobFile.{File, Load, Entry, wallCount, loadCount, entryAt, recordsFrom, entries, wallOf, loadOf, loadsOn, numbersOn, among}
@@ -19,19 +20,11 @@ loads-from : (f : ℕ → Entry) (n i count : ℕ)
     → loadsOn n (recordsFrom f i count) ≡ map (λ number. loadOf (f (number - 1))) (numbersOn n (suc i) (recordsFrom f i count))
 unfolding loadsOn numbersOn recordsFrom
 loads-from f n i zero = refl
-loads-from f n i (suc count) = go (eqb (wallOf (f i)) n) (loads-from f n (suc i) count)
-  where
-    its : ℕ → Load
-    its number = loadOf (f (number - 1))
-
-    rest : List Entry
-    rest = recordsFrom f (suc i) count
-
-    go : (on : Bool) → loadsOn n rest ≡ map its (numbersOn n (suc (suc i)) rest)
-        → cond on (loadOf (f i) ∷ loadsOn n rest) (loadsOn n rest)
-        ≡ map its (cond on (suc i ∷ numbersOn n (suc (suc i)) rest) (numbersOn n (suc (suc i)) rest))
-    go true same = ap₂ (λ (k : ℕ) (loads : List Load). loadOf (f k) ∷ loads) (omega arith) same
-    go false same = same
+loads-from f n i (suc count) =
+    let index : suc i - 1 ≡ i = omega arith in
+    let its : ℕ → Load = λ number. loadOf (f (number - 1)) in
+    let rest = numbersOn n (suc (suc i)) (recordsFrom f (suc i) count) in
+    rw (loads-from f n (suc i) count, of-either (map its) (eqb (wallOf (f i)) n) (suc i ∷ rest) rest, index)
 
 -- of a file's entries: the loads of a wall are those that have its numbers
 pub loads-are : (file : File) (n : ℕ)
@@ -57,26 +50,17 @@ element-among (m ∷ ms) (suc k) h = or-right (eqb (getD ms k 0) m) (among (getD
 first-or-later : {P : Type 0} (n first : ℕ) (e : Entry) (es : List Entry) (m : ℕ) → T (among m (numbersOn n first (e ∷ es)))
     → (m ≡ first → wallOf e ≡ n → P) → (T (among m (numbersOn n (suc first) es)) → P) → P
 unfolding among numbersOn
-first-or-later {P} n first e es m t here later = go (eqb (wallOf e) n) refl t
-  where
-    rest : List ℕ
-    rest = numbersOn n (suc first) es
-
-    go : (on : Bool) → eqb (wallOf e) n ≡ on → T (among m (cond on (first ∷ rest) rest)) → P
-    go true on t = either (eqb m first) (among m rest) t (λ same. here (eqb→eq m first same) (eqb-true (wallOf e) n on)) later
-    go false on t = later t
+first-or-later {P} n first e es m t here later =
+    let rest = numbersOn n (suc first) es in
+    case (eqb (wallOf e) n) (first ∷ rest) rest (λ l. T (among m l) → P)
+    (λ on t. either (eqb m first) (among m rest) t (λ same. here (eqb→eq m first same) (eqb→eq (wallOf e) n on)) later) (λ off t. later t) t
 
 -- and the later entries' numbers stay numbers of the wall
 later-too : (n first : ℕ) (e : Entry) (es : List Entry) (m : ℕ) → T (among m (numbersOn n (suc first) es)) → T (among m (numbersOn n first (e ∷ es)))
 unfolding among numbersOn
-later-too n first e es m t = go (eqb (wallOf e) n)
-  where
-    rest : List ℕ
-    rest = numbersOn n (suc first) es
-
-    go : (on : Bool) → T (among m (cond on (first ∷ rest) rest))
-    go true = or-right (eqb m first) (among m rest) t
-    go false = t
+later-too n first e es m t =
+    let rest = numbersOn n (suc first) es in
+    case (eqb (wallOf e) n) (first ∷ rest) rest (λ l. T (among m l)) (λ on. or-right (eqb m first) (among m rest) t) (λ off. t)
 
 -- a number of a wall is no lower than the first entry's, and no higher than the last one's
 numbers-between : (n first : ℕ) (es : List Entry) (m : ℕ) → T (among m (numbersOn n first es)) → (first ≤ m) × (m < first + length es)

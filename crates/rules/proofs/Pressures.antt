@@ -4,11 +4,11 @@ use mathlib.Core.List.{List}
 use Prim.Native.Nat.{ℕ, _+_, _-_, _*_, _≤_, _<_}
 use native.Mathlib.Nat.{mul-le-mul, mul-le-mul-left, mul-le-mul-right, le-trans}
 use native.Mathlib.Omega.{arith}
-use lib.Dec.{T, leb, leb→le}
+use lib.Dec.{T, leb, leb→le, lit<}
 use lib.IntN.{ℤ, pos, _+ℤ_, _*ℤ_}
-use lib.Signed.{_≤ℤ_, _<ℤ_, ≤ℤ-refl, leZ-yes}
+use lib.Signed.{_≤ℤ_, _<ℤ_, leZ-yes}
 use Rattle.whole.specs.Parts.{aboveZero}
-use Rattle.whole.proofs.Integer.{itself, diff-mul, above-diff, above-most, above-sub, lt-parts, pos-≤ℤ, pos-<ℤ, *ℤ-nonneg, Whole, whole, is-whole, Above, above, is-above}
+use Rattle.whole.proofs.Integer.{itself, diff-mul, above-diff, above-most, above-sub, lt-parts, pos-≤ℤ, *ℤ-nonneg, Whole, whole, is-whole, Above, above, is-above}
 use Rattle.whole.proofs.Lists.{case}
 use Rattle.whole.proofs.Rounded.{up-enough, up-least}
 use Rattle.rules.specs.declared.Fraction.{Fraction}
@@ -17,19 +17,23 @@ use Rattle.rules.specs.declared.Kind.the-variants.{Full, FromToe, FromHe
 use Rattle.rules.specs.declared.Block.{Block}
 use Rattle.rules.specs.declared.Pressed.{Pressed}
 use Rattle.rules.specs.JobFile.{Wall, Load, baseLength}
-use Rattle.rules.specs.Bearing.{kindOf, noBlock, ofKind, blockOf, factoredScale, reported, peak, greatestPeak, given, blockUnder, factoredBlock, isGiven, pressedBy}
+use Rattle.rules.specs.Bearing.{ofKind, factoredScale, reported, peak, greatestPeak, given, blockUnder, factoredBlock, isGiven, pressedBy}
 use Rattle.rules.specs.ToeAndStem.{scaled, onLine, pressureBy}
 use Rattle.rules.proofs.Accepted.{wall-within, longest, base-length}
-use Rattle.rules.proofs.Examined.{Fit}
+use Rattle.rules.proofs.Examined.{Fit, fits-of}
 use Rattle.rules.proofs.Sizes.{heaviestFactored, factored-sized}
-use Rattle.rules.proofs.Carries.{Bears, given-bears}
+use Rattle.rules.proofs.Carries.{Bears, given-has, factored-bears}
 
--- a contact of M6 over 2R, or of N over 2R, as a factored triangle has it
-pub record Reaches (contact : Fraction) : Type 0 where
+-- a contact of M6 over 2R, or of N over 2R, where R is below `heavy`
+pub record ReachesUnder (heavy : ℕ) (contact : Fraction) : Type 0 where
   pub over : pos 0 ≤ℤ contact .over
   pub under : pos 0 ≤ℤ contact .under
-  pub over-most : aboveZero (contact .over) ≤ 2 * heaviestFactored * longest
-  pub under-most : aboveZero (contact .under) ≤ 2 * heaviestFactored
+  pub over-most : aboveZero (contact .over) ≤ 2 * heavy * longest
+  pub under-most : aboveZero (contact .under) ≤ 2 * heavy
+
+-- as a factored triangle has it
+abbrev pub Reaches : Fraction → Type 0
+Reaches contact = ReachesUnder heaviestFactored contact
 
 -- a block on a base of length l whose pressure at a point can be worked
 pub record Pressable (l : ℕ) (b : Block) : Type 0 where
@@ -58,6 +62,32 @@ given-most scale b =
     case (leb (peak scale b) greatestPeak) _ _ (WithinPeak scale) (λ t. let k = leb→le (peak scale b) greatestPeak t in omega arith)
     (λ t. (up-least 1 (omega arith), up-least 1 (omega arith)))
 
+-- ---- the contact of a block
+
+-- one that is above 0 and within the base
+within-base : {l heavy : ℕ} {p q : ℤ} → l ≤ longest → Above p → Above q → p ≤ℤ (pos l *ℤ q) → aboveZero q ≤ 2 * heavy
+    → ReachesUnder heavy (record { over = p; under = q })
+within-base long (above p hp) (above q hq) short most =
+    let least : (n : ℕ) → pos 0 ≤ℤ pos n = λ n. pos-≤ℤ .1 (omega arith) in
+    record { over = least p; under = least q; over-most = omega (arith, mul-le-mul long most, pos-≤ℤ .0 short); under-most = most }
+
+module _ (R M6 : ℤ) (l heavy : ℕ) (light : R <ℤ pos heavy) (some : 0 < heavy) (long : l ≤ longest) where
+  bearing : (b : Block) → aboveZero (b .contact .under) ≤ 2 * heavy → Bears R M6 (pos l) b → ReachesUnder heavy (b .contact)
+  bearing b most bears = within-base long (is-above (bears .some)) (is-above (bears .straight .proper .contact)) (bears .within) most
+
+  -- that of a triangle stands over 2R
+  double : aboveZero (pos 2 *ℤ R) ≤ 2 * heavy
+  double = omega (arith, above-diff _ (diff-mul (pos 2) R (itself (pos 2)) (itself R)), above-most R light)
+
+  -- so it is of the block of each kind, which bears R and M6 where it is given
+  pub contact-of : (k : Kind) → (T (isGiven (ofKind k R M6 (pos l))) → Bears R M6 (pos l) (ofKind k R M6 (pos l)))
+      → ReachesUnder heavy (ofKind k R M6 (pos l) .contact)
+  unfolding ofKind
+  contact-of Full bears = bearing _ (omega arith) (bears tt)
+  contact-of FromToe bears = bearing _ double (bears tt)
+  contact-of FromHeel bears = bearing _ double (bears tt)
+  contact-of NoBlock bears = record { over = leZ-yes tt; under = leZ-yes tt; over-most = omega arith; under-most = omega arith }
+
 -- ---- the factored block
 
 -- what reports no more than the greatest peak is no more
@@ -68,21 +98,18 @@ limit p some h =
     let under : 0 < aboveZero (p .under) = omega (arith, lt-parts some) in
     le-trans (up-enough _ under) (mul-le-mul-right (aboveZero (p .under)) h)
 
--- a contact that is within the base
-reaches : {l : ℕ} {p q : ℤ} → l ≤ longest → Above p → Above q → p ≤ℤ (pos l *ℤ q) → aboveZero q ≤ 2 * heaviestFactored → Reaches (record { over = p; under = q })
-reaches long (above p hp) (above q hq) short most =
-    let least : (n : ℕ) → pos 0 ≤ℤ pos n = λ n. pos-≤ℤ .1 (omega arith) in
-    record { over = least p; under = least q; over-most = omega (arith, mul-le-mul long most, pos-≤ℤ .0 short); under-most = most }
-
 module _ (R M6 : ℤ) (l : ℕ) (light : R <ℤ pos heaviestFactored) (long : l ≤ longest) where
   -- a block is Pressable where it reports no more than the greatest peak and, if it is given, bears R and M6
   abbrev Given : Block → Type 0
   Given b = WithinPeak factoredScale b → (T (isGiven b) → Bears R M6 (pos l) b) → Pressable l b
 
-  -- a block that bears R and M6 is Pressable: it takes only that its ends are over l^2 where it is full, and its contact over no more than 2R can be
-  bearing : (b : Block) → (b .kind ≡ Full → (b .toe .under ≡ pos (l * l)) × (b .heel .under ≡ pos (l * l)))
-      → aboveZero (b .contact .under) ≤ 2 * heaviestFactored → WithinPeak factoredScale b → Bears R M6 (pos l) b → Pressable l b
-  bearing b even under most bears =
+  contact : (k : Kind) → (T (isGiven (ofKind k R M6 (pos l))) → Bears R M6 (pos l) (ofKind k R M6 (pos l))) → Reaches (ofKind k R M6 (pos l) .contact)
+  contact = contact-of R M6 l heaviestFactored light (lit< tt) long
+
+  -- it takes only that its contact reaches, and that its ends are over l^2 where it is full
+  pressed : (b : Block) → Reaches (b .contact) → (b .kind ≡ Full → (b .toe .under ≡ pos (l * l)) × (b .heel .under ≡ pos (l * l)))
+      → WithinPeak factoredScale b → Bears R M6 (pos l) b → Pressable l b
+  pressed b contact even most bears =
       let proper = bears .straight .proper in
       record {
         long = long;
@@ -91,47 +118,34 @@ module _ (R M6 : ℤ) (l : ℕ) (light : R <ℤ pos heaviestFactored) (long : l 
         toe-limit = limit (b .toe) (proper .toe) (most .0);
         heel-limit = limit (b .heel) (proper .heel) (most .1);
         even = even;
-        contact = reaches long (is-above (bears .some)) (is-above (proper .contact)) (bears .within) under;
+        contact = contact;
       }
 
-  -- the contact of a triangle stands over 2R
-  double : aboveZero (pos 2 *ℤ R) ≤ 2 * heaviestFactored
-  double = omega (arith, above-diff _ (diff-mul (pos 2) R (itself (pos 2)) (itself R)), above-most R light)
-
-  -- where there is no block, its zeros are Pressable
-  none : Pressable l noBlock
-  none =
-      let zero = ≤ℤ-refl (pos 0) in
+  -- so is the block of each kind; where there is none, its zeros are
+  of-kind : (k : Kind) → Given (ofKind k R M6 (pos l))
+  unfolding ofKind
+  of-kind Full most bears = pressed _ (contact Full bears) (λ e. (refl, refl)) most (bears tt)
+  of-kind FromToe most bears = pressed _ (contact FromToe bears) (λ e. (cc, cc)) most (bears tt)
+  of-kind FromHeel most bears = pressed _ (contact FromHeel bears) (λ e. (cc, cc)) most (bears tt)
+  of-kind NoBlock most bears =
       record {
         long = long;
-        toe = zero;
-        heel = zero;
+        toe = leZ-yes tt;
+        heel = leZ-yes tt;
         toe-limit = omega arith;
         heel-limit = omega arith;
         even = λ e. (cc, cc);
-        contact = record { over = zero; under = leZ-yes tt; over-most = omega arith; under-most = omega arith };
+        contact = contact NoBlock bears;
       }
-
-  -- the block of each kind is Pressable, and so is the one that R and M6 make
-  of-kind : (k : Kind) → Given (ofKind k R M6 (pos l))
-  unfolding ofKind
-  of-kind Full most bears = bearing _ (λ e. (refl, refl)) (omega arith) most (bears tt)
-  of-kind FromToe most bears = bearing _ (λ e. (cc, cc)) double most (bears tt)
-  of-kind FromHeel most bears = bearing _ (λ e. (cc, cc)) double most (bears tt)
-  of-kind NoBlock most bears = none
-
-  pressable : Given (given factoredScale (blockOf R M6 (pos l)))
-  unfolding given blockOf
-  pressable = case (leb (peak factoredScale (blockOf R M6 (pos l))) greatestPeak) _ _ Given (λ t. of-kind (kindOf R M6 (pos l))) (λ t most bears. none)
 
 -- the factored block of an accepted wall is Pressable, given or not
 pub factored-pressable : (wall : Wall) (loads : List Load) → Fit wall loads → Pressable (baseLength wall) (factoredBlock wall loads)
 unfolding factoredBlock blockUnder
 factored-pressable wall loads fit =
     let s = factored-sized wall loads fit in
-    let long = base-length (wall-within wall (fit .wall-fits)) in
-    pressable _ _ (baseLength wall) (s .vertical) (long .1) (given-most factoredScale _)
-    (given-bears factoredScale _ _ _ (s .some) (pos-<ℤ .1 (omega arith)) (s .on-base))
+    let long = base-length (wall-within wall (fit .wall-fits)) .1 in
+    given-has (Given _ _ (baseLength wall) (s .R) long) factoredScale _ _ _ (of-kind _ _ (baseLength wall) (s .R) long) (given-most factoredScale _)
+    (factored-bears wall loads (fits-of wall loads fit))
 
 -- ---- at a point
 

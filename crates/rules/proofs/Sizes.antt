@@ -18,8 +18,9 @@ use Rattle.whole.proofs.Lists.{All, all-joined, all-at}
 use Rattle.whole.proofs.Sums.{sumTo-abs, sumTo-mono, sumTo-nonneg, sumOf-factor, sumOf-zeros, sumOf-joined, sumOf-sumTo, sumOf-less}
 use Rattle.rules.specs.declared.Totals.{Totals}
 use Rattle.rules.specs.JobFile.{Wall, Load, stemHeight, heelLength, waterHeight, soilDensity, activeCoefficient, restCoefficient, passiveCoefficient, baseLength, wallHeight, isDown, position, greatestLoad, reach, frictionTangent}
-use Rattle.rules.specs.Forces.{squared, saturatedHeight, stemWeight, baseWeight, saturatedWeight, moistWeight, surchargeWeight, surchargePush, moistPush, moistPushBelow, saturatedPush, waterPush, Sort, deadWeight, liveWeight, deadPush, livePush, Component, down, across, weightRows, pushRows, loadRow, deadRow, liveRow, loadTable, table, vertical, horizontal, moment, columnSum, once, tenths, restores, overturns, rests, balances, totals, service, factored, passiveDepth, passive, lastingWeight, frictionUnder, thousandths}
-use Rattle.rules.proofs.Accepted.{Lies, WallWithin, wall-within, longest, base-length, wall-height, LoadWithin, load-within}
+use Rattle.rules.specs.Forces.{squared, saturatedHeight, stemWeight, baseWeight, saturatedWeight, moistWeight, surchargeWeight, surchargePush, moistPush, moistPushBelow, saturatedPush, waterPush, Sort, deadWeight, liveWeight, deadPush, livePush, Component, down, across, weightRows, pushRows, loadRow, deadRow, liveRow, loadTable, table, vertical, horizontal, moment, columnSum, once, tenths, restores, overturns, rests, totals, service, factored, passiveDepth, passive, lastingWeight, frictionUnder, thousandths}
+use Rattle.rules.proofs.Moments.{balances, one-sum}
+use Rattle.rules.proofs.Accepted.{Lies, most, WallWithin, wall-within, longest, tallest, base-length, wall-height, LoadWithin, load-within}
 use Rattle.rules.proofs.Examined.{AllFit, Fit}
 use Rattle.rules.proofs.Roundings.{stem-weight, base-weight, saturated-weight, moist-weight, surcharge-weight, surcharge-push, moist-push, moist-push-below, saturated-push, water-push, passive-force}
 
@@ -42,7 +43,7 @@ unfolding saturatedHeight wallHeight
 weighed {wall} w =
     let l = base-length w in
     let hsat = saturatedHeight wall in
-    let high : hsat + (stemHeight wall - hsat) ≤ 8000 = omega (arith, w .water, w .stem-height) in
+    let high : hsat + (stemHeight wall - hsat) ≤ most 2 = omega (arith, w .water, w .stem-height) in
     let wet = mul-le-mul-left (heelLength wall * hsat) (w .saturated-density .1) in
     let dry = mul-le-mul-left (heelLength wall * (stemHeight wall - hsat)) (w .moist-density .1) in
     let least = product (l .0) (w .base-thickness .0) (w .base-density .0) in
@@ -65,11 +66,11 @@ pub record Pushed (wall : Wall) (K h hw : ℕ) : Type 0 where
   pub water : waterPush hw ≤ 451250
 
 -- the pushes on an accepted wall, or on its stem
-pub pushed : {wall : Wall} → WallWithin wall → (K h hw : ℕ) → K ≤ 1000 → h ≤ 9500 → hw ≤ h → Pushed wall K h hw
+pub pushed : {wall : Wall} → WallWithin wall → (K h hw : ℕ) → K ≤ most 16 → h ≤ tallest → hw ≤ h → Pushed wall K h hw
 pushed {wall} w K h hw k high wet =
-    let dry : h - hw ≤ 9500 = omega arith in
-    let deep : hw ≤ 9500 = omega arith in
-    let sum : h - hw + hw ≤ 9500 = omega arith in
+    let dry : h - hw ≤ tallest = omega arith in
+    let deep : hw ≤ tallest = omega arith in
+    let sum : h - hw + hw ≤ tallest = omega arith in
     record {
       over = surcharge-push wall K h hw .least _ (product k (w .surcharge .1) high);
       moist = moist-push wall K h hw .least _ (product k (w .moist-density .1) (mul-le-mul dry dry));
@@ -116,14 +117,14 @@ push {force = f} {sixfold = d} {l} e h =
     }
 
 -- the pushes on a wall, or on its stem
-pub pushes-sound : {wall : Wall} (l heavy : ℕ) → WallWithin wall → (K h hw : ℕ) → K ≤ 1000 → h ≤ 9500 → hw ≤ h → All (Sound l heavy) (pushRows wall K h hw)
+pub pushes-sound : {wall : Wall} (l heavy : ℕ) → WallWithin wall → (K h hw : ℕ) → K ≤ most 16 → h ≤ tallest → hw ≤ h → All (Sound l heavy) (pushRows wall K h hw)
 unfolding pushRows
 pushes-sound l heavy w K h hw k high wet =
     let pushes = pushed w K h hw k high wet in
     (push refl (omega arith), (push refl (omega arith), (push refl (omega arith), (push refl (omega arith), (push refl (omega arith), tt)))))
 
 -- the stem's face is no higher than a wall's, and the water stands no higher
-pub stem-face : {wall : Wall} → WallWithin wall → (stemHeight wall ≤ 9500) × (saturatedHeight wall ≤ stemHeight wall)
+pub stem-face : {wall : Wall} → WallWithin wall → (stemHeight wall ≤ tallest) × (saturatedHeight wall ≤ stemHeight wall)
 unfolding saturatedHeight wallHeight
 stem-face w = omega arith
 
@@ -167,13 +168,13 @@ heaviestFactored = 90000000
 
 -- totals on a base of length l: some weight rests on it, less than `most`, and within it, so that 6Rl - M6 is above 0
 pub record Sized (l : ℤ) (most : ℕ) (t : Totals) : Type 0 where
-  pub some : pos 0 <ℤ t .vertical
-  pub vertical : t .vertical <ℤ pos most
-  pub horizontal : Moderate (t .horizontal)
-  pub restoring : Moderate (t .restoring)
-  pub overturning : Moderate (t .overturning)
-  pub moment : natAbs (t .moment) < 1000000000000000
-  pub on-base : t .moment <ℤ (pos 6 *ℤ t .vertical *ℤ l)
+  pub some : pos 0 <ℤ t .R
+  pub R : t .R <ℤ pos most
+  pub H : Moderate (t .H)
+  pub Mrest : Moderate (t .Mrest)
+  pub Mot : Moderate (t .Mot)
+  pub M6 : natAbs (t .M6) < 1000000000000000
+  pub on-base : t .M6 <ℤ (pos 6 *ℤ t .R *ℤ l)
 
 -- each of the four sorts has P
 abbrev pub Each : (Sort → Type 0) → Type 0
@@ -245,7 +246,7 @@ module _ (wall : Wall) (loads : List Load) (fit : Fit wall loads) where
   unfolding loadTable
   loads-count = omega (arith, length-append (map deadRow loads) (map liveRow loads), length-map loads deadRow, length-map loads liveRow, fit .few)
 
-  module _ (K : ℕ) (k : K ≤ 1000) where
+  module _ (K : ℕ) (k : K ≤ most 16) where
     sound-at : (i : ℕ) → Sound (baseLength wall) 1200001 (getD (table K wall loads) i none)
     unfolding table weightRows baseLength
     sound-at =
@@ -291,15 +292,16 @@ module _ (wall : Wall) (loads : List Load) (fit : Fit wall loads) where
           let base : 0 < n deadWeight * baseWeight wall = mul-pos (counts .0 .0) (omega (arith, weighed within .base)) in
           record {
             some = subst (λ z. z <ℤ R) (sumOf-zeros _ rows (λ c. refl)) (sumOf-less _ part none rows 1 least (omega arith) (pos-<ℤ .1 base));
-            vertical = abs-<ℤ _ (omega (arith, vertical-most));
-            horizontal = column-moderate rows sound-at count (λ s. pos (n s)) (each _ (omega (arith, le→leb))) horizontal;
-            restoring = column-moderate rows sound-at count (λ s. pos (n s) *ℤ restores s) (each _ (omega (arith, le→leb))) moment;
-            overturning = column-moderate rows sound-at count (λ s. pos (n s) *ℤ overturns s) (each _ (omega (arith, le→leb))) moment;
-            moment =
-                column-small rows sound-at count (λ s. pos (n s) *ℤ balances s)
-                (each _ (omega (arith, abs-neg (pos (n deadPush * 1)), abs-neg (pos (n livePush * 1))))) moment;
+            R = abs-<ℤ _ (omega (arith, vertical-most));
+            H = column-moderate rows sound-at count (λ s. pos (n s)) (each _ (omega (arith, le→leb))) horizontal;
+            Mrest = column-moderate rows sound-at count (λ s. pos (n s) *ℤ restores s) (each _ (omega (arith, le→leb))) moment;
+            Mot = column-moderate rows sound-at count (λ s. pos (n s) *ℤ overturns s) (each _ (omega (arith, le→leb))) moment;
+            M6 =
+                rw (one-sum (λ s. pos (n s)) rows)
+                (column-small rows sound-at count (λ s. pos (n s) *ℤ balances s)
+                (each _ (omega (arith, abs-neg (pos (n deadPush * 1)), abs-neg (pos (n livePush * 1))))) moment);
             on-base =
-                rw (*ℤ-comm (pos 6 *ℤ R) (pos l), ← *ℤ-assoc (pos l) (pos 6) R, ← sumOf-factor (pos (l * 6)) part rows)
+                rw (one-sum (λ s. pos (n s)) rows, *ℤ-comm (pos 6 *ℤ R) (pos l), ← *ℤ-assoc (pos l) (pos 6) R, ← sumOf-factor (pos (l * 6)) part rows)
                 (sumOf-less _ _ none rows 1 (λ i. sound-at i .stands (n (sortAt rows i))) (omega arith) (pos-<ℤ .1 (omega (arith, mul-pos base long))));
           }
 
@@ -324,7 +326,7 @@ module _ (wall : Wall) (loads : List Load) (fit : Fit wall loads) where
   pub lasting-below : lastingWeight wall loads <ℤ pos heaviest
   unfolding lastingWeight
   lasting-below =
-      sub-<ℤ (column-nonneg _ (sound-at (activeCoefficient wall) (within .active .1)) rests (each _ (omega arith)) vertical) (service-sized .vertical)
+      sub-<ℤ (column-nonneg _ (sound-at (activeCoefficient wall) (within .active .1)) rests (each _ (omega arith)) vertical) (service-sized .R)
 
 -- the product that the passive force is a quotient of, and the force
 pub passive-product : {wall : Wall} → WallWithin wall → passiveCoefficient wall * soilDensity wall * squared (passiveDepth wall) ≤ 281250000000000

@@ -1,12 +1,12 @@
 -- Document 01, "What is answered": each answer's number and place, and the first refusal of a job file in the order of the tests.
 use Prim.Native.Nat.{ℕ, suc, _+_, _-_, _*_}
 use mathlib.Core.Bool.{Bool, not, _&&_, cond}
-use mathlib.Core.List.{List, [], _∷_, _++_, map}
+use mathlib.Core.List.{List, [], _∷_, _++_}
 use lib.Dec.{leb, ltb, eqb}
 use lib.ListN.{length, getD}
 use Rattle.rules.specs.declared.Answer.{Answer}
 use Rattle.rules.specs.declared.Answer.the-variants.{Worked, TooShort, WrongEdition, CountOutOfRange, WrongOffsetOrLength, WallOutOfRange, LoadOutOfRange, NinthLoad, BufferTooShort, NoSuchWall}
-use Rattle.rules.specs.JobFile.{File, Wall, Load, Entry, headerBytes, edition, wallCount, firstWallOffset, loadCount, firstLoadOffset, wholeLength, entryBytes, mostWalls, mostLoads, mostLoadsOnWall, entriesAt, walls, entries, wallFits, wallOf, loadOf, loadFits, loadsOn}
+use Rattle.rules.specs.JobFile.{File, Wall, Entry, headerBytes, edition, wallCount, firstWallOffset, loadCount, firstLoadOffset, wholeLength, entryBytes, mostWalls, mostLoads, mostLoadsOnWall, entriesAt, walls, entries, wallFits, wallOf, loadOf, loadFits, loadsOn}
 
 -- a refusal's number; 0 says that the job is worked
 abbrev pub number : Answer → ℕ
@@ -60,9 +60,12 @@ offsetsAndLengthFit file =
 
 -- ---- 5: walls in file order, the first of them number n
 
+unfoldable pub wallAnswer : ℕ → Wall → Answer
+wallAnswer n wall = refusedIf (not (wallFits wall)) (WallOutOfRange n)
+
 unfoldable pub firstBadWall : ℕ → List Wall → Answer
 firstBadWall n [] = Worked
-firstBadWall n (wall ∷ rest) = refusedIf (not (wallFits wall)) (WallOutOfRange n) orElse firstBadWall (suc n) rest
+firstBadWall n (wall ∷ rest) = wallAnswer n wall orElse firstBadWall (suc n) rest
 
 -- ---- 6 and 7: loads in file order, the first of them number n, behind those that were passed
 
@@ -101,14 +104,3 @@ firstRefusal file =
 -- a job that is accepted has none of these
 abbrev pub accepted : File → Bool
 accepted file = isWorked (firstRefusal file)
-
--- ---- one wall with its loads, which are numbered from 1: as a file is answered that has just these, its header apart
-
-abbrev pub alone : Load → Entry
-alone load = 1 ∷ load
-
-unfoldable pub examined : Wall → List Load → Answer
-examined wall loads = firstBadWall 1 (wall ∷ []) orElse firstBadLoad (wall ∷ []) [] 1 (map alone loads)
-
-abbrev pub fits : Wall → List Load → Bool
-fits wall loads = isWorked (examined wall loads)

@@ -15,9 +15,8 @@ use Rattle.rules.specs.declared.Kind.{Kind}
 use Rattle.rules.specs.declared.Kind.the-variants.{Full, FromToe, FromHeel, NoBlock}
 use Rattle.rules.specs.declared.Block.{Block}
 use Rattle.rules.specs.declared.Pressed.{Pressed}
-use Rattle.rules.specs.declared.Borne.{Borne}
 use Rattle.rules.specs.JobFile.{Wall, Load, baseLength}
-use Rattle.rules.specs.Forces.{service, factored, workedForces, forcesOf}
+use Rattle.rules.specs.Forces.{service, factored}
 
 -- ---- fractions
 
@@ -154,7 +153,7 @@ unfoldable pub given : ℕ → Block → Block
 given scale b = cond (leb (peak scale b) greatestPeak) b noBlock
 
 unfoldable pub blockUnder : ℕ → Totals → Wall → Block
-blockUnder scale t wall = given scale (blockOf (t .vertical) (t .moment) (pos (baseLength wall)))
+blockUnder scale t wall = given scale (blockOf (t .R) (t .M6) (pos (baseLength wall)))
 
 unfoldable pub serviceBlock : Wall → List Load → Block
 serviceBlock wall loads = blockUnder serviceScale (service wall loads) wall
@@ -176,22 +175,3 @@ isGiven b = isGivenKind (b .kind)
 
 unfoldable pub pressedBy : ℕ → Block → Pressed
 pressedBy scale b = record { block = b; toe = reported scale (b .toe); heel = reported scale (b .heel) }
-
--- the forces on a wall that is worked, and the blocks that bear them
-unfoldable pub workedBearing : Wall → List Load → Borne
-workedBearing wall loads =
-    record {
-      forces = workedForces wall loads;
-      service = pressedBy serviceScale (serviceBlock wall loads);
-      factored = pressedBy factoredScale (factoredBlock wall loads);
-    }
-
--- what is answered of one wall with its loads: its forces, and the blocks that bear its totals. A refused one has totals of 0, and so no block.
-unfoldable pub bearingOf : Wall → List Load → Borne
-bearingOf wall loads =
-    let f = forcesOf wall loads in
-    record {
-      forces = f;
-      service = pressedBy serviceScale (blockUnder serviceScale (f .service) wall);
-      factored = pressedBy factoredScale (blockUnder factoredScale (f .factored) wall);
-    }

@@ -1,12 +1,10 @@
 -- Document 01, "The bearing block", its last paragraph: the service block for the drawing office, from a job file and a wall's number.
 -- A figure is a quotient in IEEE 754's binary64: `ofInt` makes doubles of dividend and divisor, and `div` rounds once.
 use Prim.Native.Nat.{ℕ}
-use Prim.Native.Char.{code}
 use mathlib.Core.Path.{_≡_}
 use mathlib.Core.Bool.{not, cond}
-use mathlib.Core.List.{List, [], _∷_, _++_}
 use lib.IntN.{ℤ, pos, _*ℤ_}
-use lib.Ieee.{Float, binary64, ofInt, div, toBits}
+use lib.Ieee.{Float, binary64, ofInt, div}
 use Rattle.rules.specs.declared.Answer.{Answer}
 use Rattle.rules.specs.declared.Answer.the-variants.{Worked, NoSuchWall}
 use Rattle.rules.specs.declared.Block.{Block}
@@ -22,7 +20,6 @@ use Rattle.rules.specs.JobFile.{File, walls, entries, loadsOn}
 use Rattle.rules.specs.Answered.{isWorked, refusedIf, _orElse_, isThere, numbered, firstRefusal}
 use Rattle.rules.specs.Forces.{service}
 use Rattle.rules.specs.Bearing.{serviceScale, reported, serviceBlock}
-use Rattle.rules.specs.SheetLine.{ascii, hexDigits, refusalText}
 
 unfoldable pub quotient : ℤ → ℤ → Float
 quotient a b = div binary64 (ofInt binary64 a) (ofInt binary64 b)
@@ -37,9 +34,9 @@ inKilo pressure = inThousands (pos (reported serviceScale pressure))
 unfoldable pub drawingOf : Totals → Drawing
 drawingOf t =
     record {
-      vertical = inThousands (t .vertical);
-      horizontal = inThousands (t .horizontal);
-      distance = quotient (t .moment) (pos 6 *ℤ t .vertical);
+      R = inThousands (t .R);
+      H = inThousands (t .H);
+      distance = quotient (t .M6) (pos 6 *ℤ t .R);
     }
 
 -- the length in contact is a triangle's M6 or N by 2R
@@ -67,7 +64,7 @@ drawn file n =
 unfoldable pub undrawn : Answer → Drawn
 undrawn answer =
     let none = ofInt binary64 (pos 0) in
-    record { answer = answer; drawing = record { vertical = none; horizontal = none; distance = none }; shape = Nothing }
+    record { answer = answer; drawing = record { R = none; H = none; distance = none }; shape = Nothing }
 
 unfoldable pub drawingFor : File → ℕ → Drawn
 drawingFor file n = cond (isWorked (answerToDrawing file n)) (drawn file n) (undrawn (answerToDrawing file n))
@@ -75,35 +72,3 @@ drawingFor file n = cond (isWorked (answerToDrawing file n)) (drawn file n) (und
 -- what is answered where wall n is to be drawn
 pub record Draws (file : File) (n : ℕ) (answer : Drawn) : Type 0 where
   pub answered : answer ≡ drawingFor file n
-
--- ---- the printed drawing, in hex: the shape's name and every figure's bits, or the refusal
-
-unfoldable pub shapeName : Shape → List ℕ
-shapeName (Whole toe heel) = ascii "whole"
-shapeName (ToeTriangle peak contact) = ascii "toe"
-shapeName (HeelTriangle peak contact) = ascii "heel"
-shapeName Nothing = ascii "nothing"
-
-unfoldable pub shapeFigures : Shape → List Float
-shapeFigures (Whole toe heel) = toe ∷ heel ∷ []
-shapeFigures (ToeTriangle peak contact) = peak ∷ contact ∷ []
-shapeFigures (HeelTriangle peak contact) = peak ∷ contact ∷ []
-shapeFigures Nothing = []
-
-unfoldable pub figures : Drawn → List Float
-figures d = d .drawing .vertical ∷ d .drawing .horizontal ∷ d .drawing .distance ∷ shapeFigures (d .shape)
-
--- a double's bits
-unfoldable pub figureText : Float → List ℕ
-figureText x = hexDigits 16 (toBits binary64 x)
-
--- figures, a space before each
-unfoldable pub figuresText : List Float → List ℕ
-figuresText [] = []
-figuresText (x ∷ rest) = code " " ∷ figureText x ++ figuresText rest
-
-unfoldable pub drawnText : Drawn → List ℕ
-drawnText d = shapeName (d .shape) ++ figuresText (figures d) ++ code "\n" ∷ []
-
-unfoldable pub drawingText : Drawn → List ℕ
-drawingText d = cond (isWorked (d .answer)) (drawnText d) (refusalText (d .answer))

@@ -1,7 +1,7 @@
 -- Document 01, "Forces": the component table, its totals in service and factored, and what holds a wall against sliding.
 -- Forces are in N, on a metre's run of wall, and moments in exact sixths of a N mm.
 use Prim.Native.Nat.{ℕ, _+_, _-_, _*_}
-use mathlib.Core.Bool.{Bool, false, not, _&&_, cond}
+use mathlib.Core.Bool.{Bool, not, _&&_, cond}
 use mathlib.Core.List.{List, [], _∷_, _++_, map}
 use lib.Dec.{eqb}
 use lib.ListN.{getD}
@@ -10,13 +10,9 @@ use lib.Signed.{ltZ}
 use Rattle.whole.specs.Parts.{aboveZero}
 use Rattle.whole.specs.Rounding.{roundedUp, roundedDown, roundedNearest}
 use Rattle.whole.specs.Sum.{sumOf}
-use Rattle.rules.specs.declared.Answer.{Answer}
-use Rattle.rules.specs.declared.Answer.the-variants.{Worked}
 use Rattle.rules.specs.declared.Totals.{Totals}
 use Rattle.rules.specs.declared.Sliding.{Sliding}
-use Rattle.rules.specs.declared.Forces.{Forces}
 use Rattle.rules.specs.JobFile.{Wall, Load, kind, stemHeight, stemThickness, toeLength, heelLength, baseThickness, coverInFront, excavation, waterHeight, stemDensity, baseDensity, moistDensity, saturatedDensity, soilDensity, activeCoefficient, restCoefficient, passiveCoefficient, frictionTangent, surcharge, baseLength, wallHeight, isDown, position, deadLoad, liveLoad}
-use Rattle.rules.specs.Answered.{examined, fits}
 
 -- ---- units
 
@@ -183,18 +179,19 @@ rests liveWeight = pos 1
 rests deadPush = pos 0
 rests livePush = pos 0
 
--- what M6 takes, with its sign
-abbrev pub balances : Sort → ℤ
-balances sort = restores sort -ℤ overturns sort +ℤ rests sort
+-- the moment of the rows that a test of sorts picks
+abbrev pub momentOf : (Sort → ℤ) → (Sort → ℤ) → List Component → ℤ
+momentOf counts picks rows = columnSum (λ s. counts s *ℤ picks s) moment rows
 
+-- M6 is Mrest less Mot, plus surcharge and live loads down
 unfoldable pub totals : (Sort → ℤ) → List Component → Totals
 totals counts rows =
     record {
-      vertical = columnSum counts vertical rows;
-      horizontal = columnSum counts horizontal rows;
-      restoring = columnSum (λ s. counts s *ℤ restores s) moment rows;
-      overturning = columnSum (λ s. counts s *ℤ overturns s) moment rows;
-      moment = columnSum (λ s. counts s *ℤ balances s) moment rows;
+      R = columnSum counts vertical rows;
+      H = columnSum counts horizontal rows;
+      Mrest = momentOf counts restores rows;
+      Mot = momentOf counts overturns rows;
+      M6 = momentOf counts restores rows -ℤ momentOf counts overturns rows +ℤ momentOf counts rests rows;
     }
 
 -- service takes Ka, and the factored case K0
@@ -215,7 +212,7 @@ passive wall = roundedDown (passiveCoefficient wall * soilDensity wall * squared
 -- R less surcharge and live loads down
 unfoldable pub lastingWeight : Wall → List Load → ℤ
 lastingWeight wall loads =
-    service wall loads .vertical -ℤ columnSum rests vertical (table (activeCoefficient wall) wall loads)
+    service wall loads .R -ℤ columnSum rests vertical (table (activeCoefficient wall) wall loads)
 
 unfoldable pub frictionUnder : Wall → ℤ → ℕ
 frictionUnder wall weight = roundedDown (frictionTangent wall * aboveZero weight) thousandths
@@ -234,28 +231,10 @@ slidingUnder wall weight H =
     }
 
 unfoldable pub slidingOf : Wall → List Load → Sliding
-slidingOf wall loads = slidingUnder wall (lastingWeight wall loads) (service wall loads .horizontal)
+slidingOf wall loads = slidingUnder wall (lastingWeight wall loads) (service wall loads .H)
 
 abbrev pub friction : Wall → List Load → ℕ
 friction wall loads = slidingOf wall loads .friction
 
 abbrev pub proppingForce : Wall → List Load → ℕ
 proppingForce wall loads = slidingOf wall loads .propping
-
--- ---- what is answered of one wall with its loads: its forces, or a refusal and every figure 0
-
-abbrev pub noTotals : Totals
-noTotals = record { vertical = pos 0; horizontal = pos 0; restoring = pos 0; overturning = pos 0; moment = pos 0 }
-
-abbrev pub noSliding : Sliding
-noSliding = record { passive = 0; friction = 0; slides = false; propping = 0 }
-
-abbrev pub noForces : Answer → Forces
-noForces refusal = record { answer = refusal; service = noTotals; factored = noTotals; sliding = noSliding }
-
-unfoldable pub workedForces : Wall → List Load → Forces
-workedForces wall loads =
-    record { answer = Worked; service = service wall loads; factored = factored wall loads; sliding = slidingOf wall loads }
-
-unfoldable pub forcesOf : Wall → List Load → Forces
-forcesOf wall loads = cond (fits wall loads) (workedForces wall loads) (noForces (examined wall loads))

@@ -321,8 +321,3 @@ reach wall load = cond (isDown load) (baseLength wall) (wallHeight wall)
 unfoldable pub loadFits : Wall → Load → Bool
 loadFits wall load =
     leb (direction load) 1 && leb (position load) (reach wall load) && leb (deadLoad load) greatestLoad && leb (liveLoad load) greatestLoad
-
--- the number of the first of a wall's loads that doesn't fit it, from a number on; 0 where there is none
-unfoldable pub firstUnfit : Wall → ℕ → List Load → ℕ
-firstUnfit wall number [] = 0
-firstUnfit wall number (load ∷ rest) = cond (loadFits wall load) (firstUnfit wall (suc number) rest) number

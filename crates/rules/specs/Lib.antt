@@ -1,4 +1,4 @@
--- Document 01, a file for each of its headings that has rules, in its order; the drawing comes last.
+-- Document 01, a file for each of its headings that has rules, in its order; then the drawing. What document 01 has no word for stands in `Beyond` alone.
 --
 -- How to read them. A name with arguments behind it is applied to them: `stemWeight wall`. The line above a definition gives the types of its arguments and, behind
 -- the last arrow, of its result; `abbrev` and `unfoldable` say only how proofs may open it. A definition of several lines goes by the cases of an argument. `let x = a in b` is b with a for x, and `λ x. b` a function of x.
@@ -15,3 +15,4 @@ pub mod Bearing
 pub mod ToeAndStem
 pub mod SheetLine
 pub mod Drawing
+pub mod Beyond

@@ -5,36 +5,44 @@ use Prim.Native.String.{String, [] as empty, _∷_ as _then_}
 use mathlib.Core.Path.{_≡_}
 use mathlib.Core.Bool.{Bool, true, false, not, _||_, cond}
 use mathlib.Core.List.{List, [], _∷_, _++_, map}
-use lib.Dec.{leb, ltb, eqb}
-use lib.ListN.{length, getD, drop, replicate}
+use lib.Dec.{ltb, eqb}
+use lib.ListN.{length, getD, drop}
 use lib.IntN.{ℤ, pos, negsuc}
 use lib.Signed.{ltZ}
 use Rattle.whole.specs.Parts.{aboveZero}
 use Rattle.rules.specs.declared.Answer.{Answer}
-use Rattle.rules.specs.declared.Answer.the-variants.{Worked, BufferTooShort}
+use Rattle.rules.specs.declared.Answer.the-variants.{BufferTooShort}
 use Rattle.rules.specs.declared.Check.{Check}
 use Rattle.rules.specs.declared.Check.the-variants.{Slides, Overturns, OverAllowable, NoServiceBlock, NoFactoredBlock, ToeSteel, StemSteel, Sheared}
 use Rattle.rules.specs.declared.WorkedWall.{WorkedWall}
-use Rattle.rules.specs.declared.WallLine.{WallLine}
-use Rattle.rules.specs.JobFile.{File, Wall, Load, Entry, mostWalls, wallCount, allowableBearing, walls, entries, loadsOn}
-use Rattle.rules.specs.Answered.{number, place, isWorked, refusedIf, _orElse_, firstRefusal, examined, fits}
-use Rattle.rules.specs.Bearing.{isGiven, workedBearing}
+use Rattle.rules.specs.JobFile.{File, Wall, Load, Entry, wallCount, allowableBearing, walls, entries, loadsOn}
+use Rattle.rules.specs.Answered.{number, place, isWorked, refusedIf, _orElse_, firstRefusal}
+use Rattle.rules.specs.Forces.{service, slidingOf}
+use Rattle.rules.specs.Bearing.{serviceScale, factoredScale, serviceBlock, factoredBlock, isGiven, pressedBy}
 use Rattle.rules.specs.ToeAndStem.{toe, stem}
 
 -- ---- a wall that is worked
 
 unfoldable pub workedWall : Wall → List Load → WorkedWall
-workedWall wall loads = record { borne = workedBearing wall loads; toe = toe wall loads; stem = stem wall loads }
+workedWall wall loads =
+    record {
+      totals = service wall loads;
+      sliding = slidingOf wall loads;
+      service = pressedBy serviceScale (serviceBlock wall loads);
+      factored = pressedBy factoredScale (factoredBlock wall loads);
+      toe = toe wall loads;
+      stem = stem wall loads;
+    }
 
 -- ---- the checks
 
 -- the test of each: does a wall fail it, as it was worked? The allowable pressure is in kN/m2, each of 1000 N/m2.
 unfoldable pub failsBy : Check → Wall → WorkedWall → Bool
-failsBy Slides wall w = w .borne .forces .sliding .slides
-failsBy Overturns wall w = ltZ (w .borne .forces .service .restoring) (w .borne .forces .service .overturning)
-failsBy OverAllowable wall w = ltb (1000 * allowableBearing wall) (max (w .borne .service .toe) (w .borne .service .heel))
-failsBy NoServiceBlock wall w = not (isGiven (w .borne .service .block))
-failsBy NoFactoredBlock wall w = not (isGiven (w .borne .factored .block))
+failsBy Slides wall w = w .sliding .slides
+failsBy Overturns wall w = ltZ (w .totals .Mrest) (w .totals .Mot)
+failsBy OverAllowable wall w = ltb (1000 * allowableBearing wall) (max (w .service .toe) (w .service .heel))
+failsBy NoServiceBlock wall w = not (isGiven (w .service .block))
+failsBy NoFactoredBlock wall w = not (isGiven (w .factored .block))
 failsBy ToeSteel wall w = w .toe .steel .fails
 failsBy StemSteel wall w = w .stem .steel .fails
 failsBy Sheared wall w = w .toe .sheared || w .stem .sheared
@@ -79,14 +87,14 @@ unfoldable pub numbersBy : ℕ → Wall → WorkedWall → List ℤ
 numbersBy n wall w =
     pos n
     ∷ pos (failuresBy wall w)
-    ∷ w .borne .forces .service .vertical
-    ∷ w .borne .forces .service .horizontal
-    ∷ pos (w .borne .forces .sliding .propping)
-    ∷ w .borne .forces .service .moment
-    ∷ pos (w .borne .service .toe)
-    ∷ pos (w .borne .service .heel)
-    ∷ pos (w .borne .factored .toe)
-    ∷ pos (w .borne .factored .heel)
+    ∷ w .totals .R
+    ∷ w .totals .H
+    ∷ pos (w .sliding .propping)
+    ∷ w .totals .M6
+    ∷ pos (w .service .toe)
+    ∷ pos (w .service .heel)
+    ∷ pos (w .factored .toe)
+    ∷ pos (w .factored .heel)
     ∷ pos (w .toe .action .shear)
     ∷ pos (w .toe .action .moment)
     ∷ pos (w .toe .steel .required)
@@ -97,12 +105,6 @@ numbersBy n wall w =
 
 unfoldable pub line : ℕ → Wall → List Load → List ℤ
 line n wall loads = numbersBy n wall (workedWall wall loads)
-
--- what is answered of one wall, with its number and its loads: its line, or the refusal and nothing but zeros
-unfoldable pub lineOf : ℕ → Wall → List Load → WallLine
-lineOf n wall loads =
-    cond (fits wall loads) (record { answer = Worked; numbers = line n wall loads })
-    (record { answer = examined wall loads; numbers = replicate lineNumbers (pos 0) })
 
 -- the lines of walls, the first of them number n, each with its own loads of the file
 unfoldable pub linesFrom : ℕ → List Wall → List Entry → List (List ℤ)
@@ -181,33 +183,3 @@ refusalText answer = ascii "refused" ++ lineRest (pos (number answer) ∷ pos (p
 
 unfoldable pub printed : File → List ℕ
 printed file = cond (isWorked (firstRefusal file)) (joined (map lineText (sheet file))) (refusalText (firstRefusal file))
-
--- ---- a text in a lent buffer
-
--- room for any number with what stands behind it: a sign, 19 digits, and a space or the end of the line
-abbrev pub numberRoom : ℕ
-numberRoom = 21
-
--- room for a line, and for the lines of as many walls as a job may have
-abbrev pub lineRoom : ℕ
-lineRoom = numberRoom * lineNumbers
-
-abbrev pub sheetRoom : ℕ
-sheetRoom = lineRoom * mostWalls
-
--- what a buffer holds after a text was put at its start: beyond it what stood there
-unfoldable pub onto : {A : Type 0} → List A → List A → List A
-onto text before = text ++ drop (length text) before
-
--- a text is put whole where the buffer has the room for any such text, and otherwise nothing is
-unfoldable pub fitting : ℕ → List ℕ → List ℕ → List ℕ
-fitting room text before = cond (leb room (length before)) text []
-
--- a text at the start of a lent buffer: how many bytes of it are used, and what it holds after
-pub record Put {A : Type 0} (text before : List A) (count : ℕ) (after : List A) : Type 0 where
-  pub counted : count ≡ length text
-  pub holds : after ≡ onto text before
-
--- what is put for a job
-abbrev pub Prints : File → List ℕ → ℕ → List ℕ → Type 0
-Prints file before = Put (fitting sheetRoom (printed file) before) before

@@ -11,12 +11,12 @@ use Rattle.rules.specs.declared.Fraction.{Fraction}
 use Rattle.rules.specs.declared.Kind.{Kind}
 use Rattle.rules.specs.declared.Kind.the-variants.{Full, FromToe, FromHeel, NoBlock}
 use Rattle.rules.specs.declared.Block.{Block}
+use Rattle.rules.specs.declared.Cage.{Cage}
 use Rattle.rules.specs.declared.Section.{Section}
 use Rattle.rules.specs.declared.Action.{Action}
 use Rattle.rules.specs.declared.Steel.{Steel}
 use Rattle.rules.specs.declared.Member.{Member}
 use Rattle.rules.specs.JobFile.{Wall, Load, stemHeight, stemThickness, toeLength, baseThickness, baseDensity, restCoefficient, concreteStrength, steelStrength, leastSteel, toeCover, toeBar, toeSpacing, stemCover, stemBar, stemSpacing, toeStress, stemStress, baseLength, bars, isDown, position, deadLoad, liveLoad}
-use Rattle.rules.specs.Answered.{fits}
 use Rattle.rules.specs.Forces.{perVolume, squared, saturatedHeight, Component, deadPush, livePush, across, pushRows, horizontal, moment, columnSum, tenths}
 use Rattle.rules.specs.Bearing.{factoredScale, reported, factoredBlock, isGiven}
 
@@ -107,29 +107,27 @@ stemAction wall loads =
 
 -- ---- steel, BS 8110: one rule for every section
 
--- a section has its own thickness, bars and shear stress, and the wall's materials
-abbrev pub sectionOf : Wall → ℕ → ℕ → ℕ → ℕ → ℕ → Section
-sectionOf wall thickness cover bar spacing stress =
-    record {
-      thickness = thickness;
-      cover = cover;
-      bar = bar;
-      spacing = spacing;
-      stress = stress;
-      concrete = concreteStrength wall;
-      steel = steelStrength wall;
-      least = leastSteel wall;
-    }
+-- the cages of a wall
+abbrev pub toeCage : Wall → Cage
+toeCage wall = record { cover = toeCover wall; bar = toeBar wall; spacing = toeSpacing wall; stress = toeStress wall }
+
+abbrev pub stemCage : Wall → Cage
+stemCage wall = record { cover = stemCover wall; bar = stemBar wall; spacing = stemSpacing wall; stress = stemStress wall }
+
+-- a section has its own thickness and cage, and the wall's materials
+abbrev pub sectionOf : Wall → ℕ → Cage → Section
+sectionOf wall thickness cage =
+    record { thickness = thickness; cage = cage; concrete = concreteStrength wall; steel = steelStrength wall; least = leastSteel wall }
 
 abbrev pub toeSection : Wall → Section
-toeSection wall = sectionOf wall (baseThickness wall) (toeCover wall) (toeBar wall) (toeSpacing wall) (toeStress wall)
+toeSection wall = sectionOf wall (baseThickness wall) (toeCage wall)
 
 abbrev pub stemSection : Wall → Section
-stemSection wall = sectionOf wall (stemThickness wall) (stemCover wall) (stemBar wall) (stemSpacing wall) (stemStress wall)
+stemSection wall = sectionOf wall (stemThickness wall) (stemCage wall)
 
 -- D: twice the depth
 unfoldable pub twiceDepth : Section → ℕ
-twiceDepth s = 2 * s .thickness - 2 * s .cover - s .bar
+twiceDepth s = 2 * s .thickness - 2 * s .cage .cover - s .cage .bar
 
 -- M is more than the section bears without compression steel
 unfoldable pub needsCompression : ℕ → ℕ → ℕ → Bool
@@ -180,7 +178,7 @@ requiredArea s M =
     (max (neededArea M (s .steel) (leverArm M (s .concrete) (twiceDepth s))) (leastArea s))
 
 unfoldable pub steelFails : Section → ℕ → Bool
-steelFails s M = needsCompression M (s .concrete) (twiceDepth s) || ltb (providedArea (s .bar) (s .spacing)) (requiredArea s M)
+steelFails s M = needsCompression M (s .concrete) (twiceDepth s) || ltb (providedArea (s .cage .bar) (s .cage .spacing)) (requiredArea s M)
 
 -- ---- shear: one rule for every section
 
@@ -189,7 +187,7 @@ unfoldable pub shearFails : Section → ℕ → Bool
 shearFails s shear =
     let D = twiceDepth s in
     not
-    (ltb (2 * shear) (s .stress * D)
+    (ltb (2 * shear) (s .cage .stress * D)
     && leb (2 * shear) (5000 * D)
     && leb (100 * squared (2 * shear)) (64 * s .concrete * squared (1000 * D)))
 
@@ -216,37 +214,3 @@ toe wall loads = toeUnder wall (factoredBlock wall loads)
 
 unfoldable pub stem : Wall → List Load → Member
 stem wall loads = memberUnder (stemSection wall) (stemAction wall loads)
-
--- ---- what is answered of any wall with its loads, and of any section: of those that document 01 has no rule for, too
-
--- a refused wall has no figure
-unfoldable pub stemActionOf : Wall → List Load → Action
-stemActionOf wall loads = cond (fits wall loads) (stemAction wall loads) noAction
-
--- the greatest that each number of a section is in any wall
-abbrev pub greatestSection : Section
-greatestSection =
-    record { thickness = 1500; cover = 75; bar = 40; spacing = 500; stress = 5000; concrete = 60; steel = 500; least = 100 }
-
-unfoldable pub isSmall : Section → Bool
-isSmall s =
-    let most = greatestSection in
-    leb (s .thickness) (most .thickness)
-    && leb (s .cover) (most .cover)
-    && leb (s .bar) (most .bar)
-    && leb (s .spacing) (most .spacing)
-    && leb (s .stress) (most .stress)
-    && leb (s .concrete) (most .concrete)
-    && leb (s .steel) (most .steel)
-    && leb (s .least) (most .least)
-
--- it has steel of some strength, and depth enough for a lever arm
-unfoldable pub isWorkable : Section → Bool
-isWorkable s = isSmall s && leb 1 (s .steel) && leb 2 (twiceDepth s)
-
--- any other section isn't worked, and passes neither check
-abbrev pub unworked : Action → Member
-unworked a = record { action = a; steel = record { required = 0; fails = true }; sheared = true }
-
-unfoldable pub memberOf : Section → Action → Member
-memberOf s a = cond (isWorkable s) (memberUnder s a) (unworked a)

@@ -1,5 +1,11 @@
-// Document 01 as definitions: `specs/` has a file for each of its headings. Here stand the types that its answers have,
-// and the one of its table of ranges.
+// Document 01 as definitions: `specs/` has a file for each of its headings. Here stand the types that its answers have, the one of its table of
+// ranges, and the constants that more than one crate reads.
+
+// The diameters that a bar can have, in mm.
+pub const BARS: [u32; 8] = [8, 10, 12, 16, 20, 25, 32, 40];
+
+// mm x mm x (10 N/m3) on a metre's run: 100000 to the newton.
+pub const PER_VOLUME: u64 = 100000;
 
 // The range of a wall's field.
 pub enum Range {
@@ -31,11 +37,11 @@ pub enum Answer {
 
 // The totals of a wall: R and H in N, and Mrest, Mot and M6 in sixths of a N mm; where they are factored, in tenths of these.
 pub struct Totals {
-    pub vertical: i64,
-    pub horizontal: i64,
-    pub restoring: i64,
-    pub overturning: i64,
-    pub moment: i64,
+    pub R: i64,
+    pub H: i64,
+    pub Mrest: i64,
+    pub Mot: i64,
+    pub M6: i64,
 }
 
 // What holds a wall against sliding: passive force and friction in N, whether an unpropped wall slides all the same, and what a prop has to
@@ -47,12 +53,14 @@ pub struct Sliding {
     pub propping: u64,
 }
 
-// The forces on a wall under its loads: the answer, the totals in service and factored, and what holds the wall. A refusal has 0 for each figure.
+// The forces on a wall under its loads: the answer, the totals in service and factored, what holds the wall, and what acts on its stem. A refusal has 0
+// for each figure.
 pub struct Forces {
     pub answer: Answer,
     pub service: Totals,
     pub factored: Totals,
     pub sliding: Sliding,
+    pub stem: Action,
 }
 
 // A fraction, which is not reduced.
@@ -92,14 +100,18 @@ pub struct Borne {
     pub factored: Pressed,
 }
 
-// A metre of toe or stem as the steel sees it: lengths in mm, the concrete's shear stress in 1/1000 N/mm2, strengths in N/mm2, and the
-// least steel in hundredths of a percent.
-pub struct Section {
-    pub thickness: u64,
+// The bars of a section in mm, and the concrete's shear stress beside them in 1/1000 N/mm2.
+pub struct Cage {
     pub cover: u64,
     pub bar: u64,
     pub spacing: u64,
     pub stress: u64,
+}
+
+// A metre of toe or stem as the steel sees it: its thickness in mm, its cage, strengths in N/mm2, and the least steel in hundredths of a percent.
+pub struct Section {
+    pub thickness: u64,
+    pub cage: Cage,
     pub concrete: u64,
     pub steel: u64,
     pub least: u64,
@@ -124,9 +136,18 @@ pub struct Member {
     pub sheared: bool,
 }
 
-// A wall that is worked: its forces and the blocks that bear them, its toe and its stem.
+// What is answered of any section: what it makes of the action on it, or that it can't be worked.
+pub enum Verdict {
+    Judged(Member),
+    Unworkable,
+}
+
+// A wall that is worked: its totals in service, what holds it, the blocks that bear it, its toe and its stem.
 pub struct WorkedWall {
-    pub borne: Borne,
+    pub totals: Totals,
+    pub sliding: Sliding,
+    pub service: Pressed,
+    pub factored: Pressed,
     pub toe: Member,
     pub stem: Member,
 }
@@ -156,8 +177,8 @@ pub struct WallLine {
 
 // What the drawing office draws of a wall's forces in service: R and H, in kN, and how far from the toe R acts, in mm.
 pub struct Drawing {
-    pub vertical: f64,
-    pub horizontal: f64,
+    pub R: f64,
+    pub H: f64,
     pub distance: f64,
 }
 

@@ -6,63 +6,44 @@ mod steel;
 use rules::Action;
 use rules::Member;
 use rules::Section;
-use rules::Steel;
+use rules::Verdict;
 ghost use mathlib.Core.Path.{_≡_};
-ghost use Rattle.rules.specs.ToeAndStem.{isSmall, isWorkable, memberOf};
+ghost use Rattle.rules.specs.Beyond.{isSmall, isWorkable, verdictOf};
 
-// The greatest that each number of a section is in any wall.
-const GREATEST: Section = Section {
-    thickness: 1500,
-    cover: 75,
-    bar: 40,
-    spacing: 500,
-    stress: 5000,
-    concrete: 60,
-    steel: 500,
-    least: 100,
-};
+// Where every number of a section is below this, every product that is worked of it fits 64 bits.
+const SECTION_LIMIT: u64 = 8192;
 
 fn is_small(section: Section) -> bool
     ensures { λ r. ⌜ r ≡ isSmall section ⌝ }
 {
-    (section.thickness <= GREATEST.thickness)
-        & (section.cover <= GREATEST.cover)
-        & (section.bar <= GREATEST.bar)
-        & (section.spacing <= GREATEST.spacing)
-        & (section.stress <= GREATEST.stress)
-        & (section.concrete <= GREATEST.concrete)
-        & (section.steel <= GREATEST.steel)
-        & (section.least <= GREATEST.least)
+    (section.thickness < SECTION_LIMIT)
+        & (section.cage.cover < SECTION_LIMIT)
+        & (section.cage.bar < SECTION_LIMIT)
+        & (section.cage.spacing < SECTION_LIMIT)
+        & (section.cage.stress < SECTION_LIMIT)
+        & (section.concrete < SECTION_LIMIT)
+        & (section.steel < SECTION_LIMIT)
+        & (section.least < SECTION_LIMIT)
 }
 
 // Does the section have steel of some strength, and depth enough for a lever arm?
 fn is_workable(section: Section) -> bool
     ensures { λ r. ⌜ r ≡ isWorkable section ⌝ }
 {
-    if !is_small(section) {
-        return false;
-    }
-    (1 <= section.steel) & (2 <= steel::twice_depth(section))
+    is_small(section) && ((1 <= section.steel) & (2 <= steel::twice_depth(section)))
 }
 
-// What a section makes of the action on it: the steel that it requires, and its verdicts. One that can't be worked passes neither check.
-pub fn member(section: Section, action: Action) -> Member
-    ensures { λ r. ⌜ r ≡ memberOf section action ⌝ }
+// What a section makes of the action on it: the steel that it requires, and whether it fails. One that can't be worked is told from one that fails.
+pub fn judged(section: Section, action: Action) -> Verdict
+    ensures { λ r. ⌜ r ≡ verdictOf section action ⌝ }
 {
     if is_workable(section) {
-        Member {
+        Verdict::Judged(Member {
             action: action,
             steel: steel::steel_of(section, action.moment),
             sheared: shear::shear_fails(section, action.shear),
-        }
+        })
     } else {
-        Member {
-            action: action,
-            steel: Steel {
-                required: 0,
-                fails: true,
-            },
-            sheared: true,
-        }
+        Verdict::Unworkable
     }
 }

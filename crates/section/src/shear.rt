@@ -8,6 +8,9 @@ ghost use Rattle.rules.proofs.Sections.{Bounded};
 // Half of the greatest stress that any concrete may have, in 1/1000 N/mm2. V is held to it before it is doubled, since 2V may not fit.
 const HALF_GREATEST_STRESS: u64 = 2500;
 
+// 0.8, in thousandths. The third test is worked as (2V)^2 <= fcu x (800D)^2, both sides divided by 100, since document 01's may not fit.
+const ROOT_FACTOR: u64 = 800;
+
 // The stress is at the concrete's own or above it, is more than 5 N/mm2, or is more than 0.8 of the root of fcu.
 pub fn shear_fails(section: Section, v: u64) -> bool
     requires { ⌜ Bounded section ⌝ }
@@ -18,7 +21,6 @@ pub fn shear_fails(section: Section, v: u64) -> bool
         return true;
     }
     let twice = 2 * v;
-    let thousandfold = 1000 * d;
-    !((twice < section.stress * d)
-        & (100 * (twice * twice) <= 64 * section.concrete * (thousandfold * thousandfold)))
+    let root = ROOT_FACTOR * d;
+    !((twice < section.cage.stress * d) & (twice * twice <= section.concrete * (root * root)))
 }

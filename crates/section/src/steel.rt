@@ -1,11 +1,11 @@
 // Document 01, "Toe and stem": the steel of a section, by BS 8110. Areas are in mm2 on a metre's width.
-use record::BARS;
+use rules::BARS;
 use rules::Section;
 use rules::Steel;
 ghost use mathlib.Core.Path.{_≡_};
 ghost use Prim.Native.Nat.{_≤_};
-ghost use Rattle.whole.specs.Rounding.{roundedUp, roundedDown};
-ghost use Rattle.rules.specs.ToeAndStem.{greatestSection, twiceDepth, needsCompression, bears, leverArm, neededArea, leastArea, barArea, providedArea, steelUnder};
+ghost use Rattle.rules.specs.ToeAndStem.{twiceDepth, needsCompression, bears, leverArm, neededArea, leastArea, barArea, providedArea, steelUnder};
+ghost use Rattle.rules.specs.Beyond.{sectionLimit};
 ghost use Rattle.rules.proofs.Sections.{Bounded, deepest, Within, greatestMoment};
 
 // The width that steel is worked for, in mm.
@@ -24,8 +24,8 @@ pub fn twice_depth(section: Section) -> u64
     requires { ⌜ Bounded section ⌝ }
     ensures { λ r. ⌜ (r ≡ twiceDepth section) × (r ≤ deepest) ⌝ }
 {
-    let covered = whole::excess(2 * section.thickness, 2 * section.cover);
-    whole::excess(covered, section.bar)
+    let covered = whole::excess(2 * section.thickness, 2 * section.cage.cover);
+    whole::excess(covered, section.cage.bar)
 }
 
 // M is more than the section bears without compression steel.
@@ -59,32 +59,19 @@ pub fn lever_arm(m: u64, fcu: u64, d: u64) -> u64
     0
 }
 
-// What is asked for is rounded up, and what is there is rounded down.
-fn asked(product: u64, per: u64) -> u64
-    ensures { λ r. ⌜ r ≡ roundedUp product per ⌝ }
-{
-    whole::rounded_up(product, per)
-}
-
-fn there(product: u64, per: u64) -> u64
-    ensures { λ r. ⌜ r ≡ roundedDown product per ⌝ }
-{
-    whole::rounded_down(product, per)
-}
-
 // The area that a moment needs at a lever arm.
 pub fn needed_area(m: u64, fy: u64, z: u64) -> u64
-    requires { ⌜ (m ≤ greatestMoment) × (fy ≤ greatestSection .steel) × (z ≤ deepest) ⌝ }
+    requires { ⌜ (m ≤ greatestMoment) × (fy ≤ sectionLimit) × (z ≤ deepest) ⌝ }
     ensures { λ r. ⌜ r ≡ neededArea m fy z ⌝ }
 {
-    asked(200 * m, 87 * fy * z)
+    whole::rounded_up(200 * m, 87 * fy * z)
 }
 
 fn least_area(section: Section) -> u64
     requires { ⌜ Bounded section ⌝ }
     ensures { λ r. ⌜ r ≡ leastArea section ⌝ }
 {
-    asked(section.least * METRE * section.thickness, TEN_THOUSANDTHS)
+    whole::rounded_up(section.least * METRE * section.thickness, TEN_THOUSANDTHS)
 }
 
 // The area of one bar, in hundredths of mm2; 0 for a diameter that no bar has.
@@ -101,10 +88,10 @@ fn bar_area(bar: u64) -> u32
 
 // The area of bars at a spacing.
 pub fn provided_area(bar: u64, spacing: u64) -> u64
-    requires { ⌜ spacing ≤ greatestSection .spacing ⌝ }
+    requires { ⌜ spacing ≤ sectionLimit ⌝ }
     ensures { λ r. ⌜ r ≡ providedArea bar spacing ⌝ }
 {
-    there(bar_area(bar) as u64 * METRE, HUNDREDTHS * spacing)
+    whole::rounded_down(bar_area(bar) as u64 * METRE, HUNDREDTHS * spacing)
 }
 
 // The area required under a moment, and whether less is provided. Where compression steel would be needed no area is given, and the steel fails.
@@ -124,6 +111,6 @@ pub fn steel_of(section: Section, m: u64) -> Steel
     let required = whole::greater(needed, least_area(section));
     Steel {
         required: required,
-        fails: provided_area(section.bar, section.spacing) < required,
+        fails: provided_area(section.cage.bar, section.cage.spacing) < required,
     }
 }

@@ -9,7 +9,8 @@ use borrow.Author.Tests.{lt-ltb, le-ltb}
 use Rattle.rules.specs.declared.Answer.the-variants.{Worked, BufferTooShort}
 use Rattle.rules.specs.JobFile.{File, wallCount}
 use Rattle.rules.specs.Answered.{isWorked, firstRefusal}
-use Rattle.rules.specs.SheetLine.{lineNumbers, sheet, joined, onto, answerTo, bufferAfter, Calculates}
+use Rattle.rules.specs.SheetLine.{lineNumbers, sheet, joined, answerTo, bufferAfter, Calculates}
+use Rattle.rules.specs.Beyond.{onto}
 use Rattle.sheet.proofs.Sheets.{numbers-length}
 
 module _ (file : File) (before : List ℤ) where

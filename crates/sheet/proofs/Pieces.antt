@@ -7,7 +7,8 @@ use native.Mathlib.Omega.{arith}
 use lib.ListN.{length, getD, take, length-append}
 use lib.Seq.{take-all}
 use Rattle.whole.proofs.Lists.{All}
-use Rattle.rules.specs.SheetLine.{joined, Put}
+use Rattle.rules.specs.SheetLine.{joined}
+use Rattle.rules.specs.Beyond.{Put}
 use Rattle.rules.proofs.Putting.{behind, withBack, no-text, then-text}
 
 -- so many of the pieces are put

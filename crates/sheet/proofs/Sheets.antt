@@ -16,7 +16,8 @@ use Rattle.whole.proofs.Lists.{All}
 use Rattle.rules.specs.declared.WallLine.{WallLine}
 use Rattle.rules.specs.JobFile.{File, Wall, Load, Entry, mostLoadsOnWall, wallCount, wallAt, walls, entries, loadsOn}
 use Rattle.rules.specs.Answered.{accepted}
-use Rattle.rules.specs.SheetLine.{lineNumbers, numbersBy, line, lineOf, linesFrom, sheet, joined, lineText, lineRoom}
+use Rattle.rules.specs.SheetLine.{lineNumbers, numbersBy, line, linesFrom, sheet, joined, lineText}
+use Rattle.rules.specs.Beyond.{lineOf, lineRoom}
 use Rattle.rules.proofs.AcceptedFile.{walls-length, wall-at, wall-count}
 use Rattle.rules.proofs.Examined.{fit, wall-of-file}
 use Rattle.rules.proofs.Sizes.{Small}
@@ -24,7 +25,7 @@ use Rattle.rules.proofs.Lines.{line-small}
 use Rattle.rules.proofs.Absent.{line-with}
 use Rattle.job.specs.Places.{placeTable, loadsAt}
 use Rattle.job.proofs.PlacesOfLoads.{absent, rows-of-wall, room-for-rows}
-use Rattle.printing.proofs.Lengths.{line-most}
+use Rattle.text.proofs.Lengths.{line-most}
 use Rattle.sheet.proofs.Pieces.{joined-length}
 
 -- as many as there are walls

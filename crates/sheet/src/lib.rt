@@ -1,12 +1,15 @@
 // Document 01 for a whole job file: the numbers of its sheet, the text that is printed of it, and the drawing of a wall. Each entry takes any bytes,
 // and a refusal changes nothing that was lent but for its own text.
-pub use drawing::drawing;
+mod drawn;
+mod figures;
+
 use job::MOST_WALLS;
 use job::PlaceRow;
-use printing::LINE_ROOM;
 use rules::Answer;
+use rules::Drawn;
 use rules::LINE;
 use rules::LineNumbers;
+use text::LINE_ROOM;
 ghost use mathlib.Core.Path.{_≡_};
 ghost use mathlib.Core.List.{[]};
 ghost use Prim.Native.Nat.{_<_, _*_, _≤_};
@@ -15,7 +18,9 @@ ghost use lib.ListN.{getD, length};
 ghost use Rattle.job.specs.Places.{placeTable};
 ghost use Rattle.rules.specs.JobFile.{wallCount, entries};
 ghost use Rattle.rules.specs.Answered.{accepted};
-ghost use Rattle.rules.specs.SheetLine.{Calculates, Prints, Put, lineNumbers, sheetRoom, sheet, onto, joined, printed};
+ghost use Rattle.rules.specs.Drawing.{Draws};
+ghost use Rattle.rules.specs.SheetLine.{Calculates, lineNumbers, sheet, joined, printed};
+ghost use Rattle.rules.specs.Beyond.{Prints, Put, sheetRoom, onto};
 
 // Room for the text of any job.
 pub const SHEET_ROOM: usize = LINE_ROOM * MOST_WALLS;
@@ -61,9 +66,9 @@ fn put_lines(job: &[u8], out: &mut [i64])
 pub fn calculate(job: &[u8], out: &mut [i64]) -> Answer
     ensures { λ r. ⌜ Calculates (now (job .entry)) (now (out .entry)) r (now (out .exit)) ⌝ }
 {
-    let answer = answer::first_refusal(job);
-    if !reply::is_worked(answer) {
-        return answer;
+    let first = job::first_refusal(job);
+    if !reply::is_worked(first) {
+        return first;
     }
     let walls = job::wall_count(job) as usize;
     if out.len() < LINE * walls {
@@ -84,7 +89,7 @@ fn put_texts(job: &[u8], out: &mut [u8]) -> usize
     for i in 0..walls {
         let index = i as usize;
         let numbers = line_at(job, places[index], i);
-        used += printing::line_text(numbers, &mut out[used..]);
+        used += text::line_text(numbers, &mut out[used..]);
     }
     used
 }
@@ -97,9 +102,27 @@ pub fn text(job: &[u8], out: &mut [u8]) -> usize
     if out.len() < SHEET_ROOM {
         return 0;
     }
-    let answer = answer::first_refusal(job);
+    let answer = job::first_refusal(job);
     if !reply::is_worked(answer) {
-        return printing::refusal_text(answer, out);
+        return text::refusal_text(answer, out);
     }
     put_texts(job, out)
+}
+
+// The drawing of a wall, by its number in the file; or the refusal, with nothing drawn.
+pub fn drawing(job: &[u8], wall: u32) -> Drawn
+    ensures { λ r. ⌜ Draws (now (job .entry)) wall r ⌝ }
+{
+    let answer = job::first_refusal(job);
+    if !reply::is_worked(answer) {
+        return drawn::undrawn(answer);
+    }
+    let walls = job::wall_count(job) as u32;
+    if wall < 1 {
+        return drawn::undrawn(Answer::NoSuchWall(wall));
+    }
+    if walls < wall {
+        return drawn::undrawn(Answer::NoSuchWall(wall));
+    }
+    drawn::drawn_at(job, wall - 1)
 }

@@ -1,4 +1,4 @@
--- What is answered of any section and any wall, where it is worked and where it is refused.
+-- What is answered of any wall, where it is worked and where it is refused.
 use mathlib.Core.Path.{_≡_, refl}
 use mathlib.Core.Bool.{Bool, true, false, cond, and-false}
 use mathlib.Core.List.{List}
@@ -8,23 +8,17 @@ use lib.Dec.{T, ltb}
 use lib.Ieee.Bits.{is-true}
 use lib.IntN.{pos}
 use lib.ListN.{replicate}
-use Rattle.rules.specs.declared.Action.{Action}
 use Rattle.rules.specs.declared.Block.{Block}
-use Rattle.rules.specs.declared.Section.{Section}
 use Rattle.rules.specs.JobFile.{Wall, Load, toeLength, baseLength}
-use Rattle.rules.specs.Answered.{isWorked, examined, fits}
-use Rattle.rules.specs.Forces.{noForces, workedForces, forcesOf}
-use Rattle.rules.specs.Bearing.{factoredScale, isGiven, pressedBy, workedBearing, bearingOf}
-use Rattle.rules.specs.ToeAndStem.{toeWorked, toeAction, stemAction, toeSection, memberUnder, noMember, toeUnder, toe, stemActionOf, isWorkable, memberOf}
-use Rattle.rules.specs.SheetLine.{lineNumbers, line, lineOf}
+use Rattle.rules.specs.Answered.{isWorked}
+use Rattle.rules.specs.Bearing.{factoredScale, isGiven, pressedBy}
+use Rattle.rules.specs.ToeAndStem.{toeWorked, toeAction, stemAction, toeSection, memberUnder, noMember, toeUnder, toe, stem}
+use Rattle.rules.specs.SheetLine.{workedWall, lineNumbers, line}
+use Rattle.rules.specs.Beyond.{examined, fits, noForces, workedForces, forcesOf, workedBearing, bearingOf, isWorkable, lineOf}
 use Rattle.rules.proofs.Carries.{worked-blocks}
-use Rattle.rules.proofs.Examined.{fit}
-use Rattle.rules.proofs.Pressures.{Pressable, factored-pressable}
-
--- a workable section is worked
-pub member-worked : (s : Section) (a : Action) → T (isWorkable s) → memberOf s a ≡ memberUnder s a
-unfolding memberOf
-member-worked s a t = rw (is-true (isWorkable s) t)
+use Rattle.rules.proofs.Examined.{Fit, fits-of}
+use Rattle.rules.proofs.Pressures.{factored-pressable}
+use Rattle.wall.specs.Working.{Bears, workedOver}
 
 -- a toe is worked where there is one, and a block under it
 module _ (wall : Wall) (b : Block) where
@@ -40,25 +34,19 @@ module _ (wall : Wall) (b : Block) where
   unfolding toeUnder toeWorked
   toe-worked some e = rw (lt-ltb 0 (toeLength wall) some, e)
 
-module _ (wall : Wall) (loads : List Load) (worked : T (fits wall loads)) where
-  pub stem-acted : stemActionOf wall loads ≡ stemAction wall loads
-  unfolding stemActionOf
-  stem-acted = rw (is-true (fits wall loads) worked)
+module _ (wall : Wall) (loads : List Load) (fit : Fit wall loads) where
+  borne : bearingOf wall loads ≡ workedBearing wall loads
+  borne = worked-blocks wall loads (is-true (fits wall loads) (fits-of wall loads fit))
 
-  -- what bears it, part by part
-  pub borne : bearingOf wall loads ≡ workedBearing wall loads
-  borne = worked-blocks wall loads (is-true (fits wall loads) worked)
-
-  -- its toe can be worked over its factored block
-  pub bears-toe : let factored = bearingOf wall loads .factored in
-      (factored ≡ pressedBy factoredScale (factored .block)) × Pressable (baseLength wall) (factored .block)
+  -- what bears a wall that fits bears its toe
+  pub bears-toe : Bears wall (bearingOf wall loads .factored)
   unfolding workedBearing pressedBy
-  bears-toe = rw borne (refl, factored-pressable wall loads (fit wall loads worked))
+  bears-toe = rw borne (record { reports = refl; pressable = factored-pressable wall loads fit })
 
-  -- and is then the toe of the rules
-  pub toe-is : toeUnder wall (bearingOf wall loads .factored .block) ≡ toe wall loads
-  unfolding toe workedBearing pressedBy
-  toe-is = rw borne
+  -- and the wall is worked from it
+  pub worked-is : workedOver wall (bearingOf wall loads) ≡ workedWall wall loads
+  unfolding workedOver workedWall workedBearing workedForces pressedBy toe stem
+  worked-is = rw borne
 
 -- ---- refused or not
 

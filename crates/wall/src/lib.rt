@@ -1,4 +1,5 @@
 // Document 01, "The sheet line": one wall under its loads, worked to the sixteen numbers of its line.
+mod checks;
 mod members;
 mod pressure;
 mod sections;
@@ -7,6 +8,7 @@ mod toe;
 use record::Loads;
 use record::Wall;
 use rules::Borne;
+use rules::Check;
 use rules::LINE;
 use rules::LineNumbers;
 use rules::WallLine;
@@ -15,20 +17,29 @@ ghost use mathlib.Core.Path.{_≡_};
 ghost use lib.Dec.{T};
 ghost use lib.IntN.{natAbs};
 ghost use Rattle.whole.proofs.Lists.{All};
-ghost use Rattle.rules.specs.Answered.{fits};
-ghost use Rattle.rules.specs.Bearing.{bearingOf};
-ghost use Rattle.rules.specs.SheetLine.{workedWall, numbersBy, lineOf};
+ghost use Rattle.rules.specs.JobFile.{wallFits};
+ghost use Rattle.rules.specs.SheetLine.{isSet, numbersBy};
+ghost use Rattle.rules.specs.Beyond.{lineOf};
 ghost use Rattle.rules.proofs.Sizes.{Small};
+ghost use Rattle.wall.specs.Working.{Bears, workedOver};
 
-// A wall that fits with its loads: to what bears it come its toe and its stem.
-fn worked(wall: Wall, loads: Loads, borne: Borne) -> WorkedWall
-    requires { ⌜ T (fits wall loads) × (borne ≡ bearingOf wall loads) ⌝ }
-    ensures { λ r. ⌜ r ≡ workedWall wall loads ⌝ }
+// To what bears a wall that fits come its toe and its stem.
+fn worked(wall: Wall, borne: Borne) -> WorkedWall
+    requires { ⌜ T (wallFits wall) × Bears wall (borne .factored) ⌝ }
+    ensures { λ r. ⌜ r ≡ workedOver wall borne ⌝ }
 {
+    let forces = borne.forces;
+    let totals = forces.service;
+    let sliding = forces.sliding;
+    let service = borne.service;
+    let factored = borne.factored;
     WorkedWall {
-        borne: borne,
-        toe: members::toe_over(wall, borne.factored),
-        stem: members::stem_under(wall, loads),
+        totals: totals,
+        sliding: sliding,
+        service: service,
+        factored: factored,
+        toe: members::toe_over(wall, factored),
+        stem: members::stem_under(wall, forces.stem),
     }
 }
 
@@ -38,20 +49,17 @@ fn numbers_of(number: u32, wall: Wall, worked: WorkedWall) -> LineNumbers
     ensures { λ r. ⌜ r ≡ numbersBy number wall worked ⌝ }
 {
     let failures = checks::failures_of(wall, worked);
-    let forces = worked.borne.forces;
-    let service = worked.borne.service;
-    let factored = worked.borne.factored;
     [
         number as i64,
         failures as i64,
-        forces.service.vertical,
-        forces.service.horizontal,
-        forces.sliding.propping as i64,
-        forces.service.moment,
-        service.toe as i64,
-        service.heel as i64,
-        factored.toe as i64,
-        factored.heel as i64,
+        worked.totals.R,
+        worked.totals.H,
+        worked.sliding.propping as i64,
+        worked.totals.M6,
+        worked.service.toe as i64,
+        worked.service.heel as i64,
+        worked.factored.toe as i64,
+        worked.factored.heel as i64,
         worked.toe.action.shear as i64,
         worked.toe.action.moment as i64,
         worked.toe.steel.required as i64,
@@ -77,6 +85,13 @@ pub fn line(number: u32, wall: Wall, loads: Loads) -> WallLine
     }
     WallLine {
         answer: answer,
-        numbers: numbers_of(number, wall, worked(wall, loads, borne)),
+        numbers: numbers_of(number, wall, worked(wall, borne)),
     }
+}
+
+// Does a byte of failures, as a line has it, have a check's bit?
+pub fn has_failed(failures: u8, check: Check) -> bool
+    ensures { λ r. ⌜ r ≡ isSet failures check ⌝ }
+{
+    (failures >> checks::shift_of(check)) & 1 == 1
 }

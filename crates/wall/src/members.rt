@@ -1,21 +1,23 @@
-// Document 01, "Toe and stem": the toe and the stem of a wall, each with what acts on it and what its section makes of that.
+// Document 01, "Toe and stem": the toe and the stem of a wall that fits, each with what acts on it and what its section makes of that.
+use crate::checks;
 use crate::sections;
 use crate::toe;
-use record::Loads;
 use record::TOE_LENGTH;
 use record::Wall;
 use rules::Action;
 use rules::Member;
 use rules::Pressed;
+use rules::Section;
 use rules::Steel;
+use rules::Verdict;
 ghost use mathlib.Core.Path.{_≡_};
 ghost use lib.Dec.{T};
-ghost use Rattle.rules.specs.JobFile.{wallFits, baseLength};
-ghost use Rattle.rules.specs.Answered.{fits};
-ghost use Rattle.rules.specs.Bearing.{factoredScale, pressedBy};
-ghost use Rattle.rules.specs.ToeAndStem.{noMember, toeUnder, stem};
-ghost use Rattle.rules.proofs.Pressures.{Pressable};
+ghost use Rattle.rules.specs.JobFile.{wallFits};
+ghost use Rattle.rules.specs.ToeAndStem.{stemSection, memberUnder, noMember, toeUnder};
+ghost use Rattle.rules.specs.Beyond.{isWorkable};
+ghost use Rattle.wall.specs.Working.{Bears};
 
+// Figures of 0, and no check made.
 fn no_member() -> Member
     ensures { λ r. ⌜ r ≡ noMember ⌝ }
 {
@@ -32,27 +34,35 @@ fn no_member() -> Member
     }
 }
 
+// What a section of a wall makes of the action on it: each can be worked.
+fn member_of(section: Section, action: Action) -> Member
+    requires { ⌜ T (isWorkable section) ⌝ }
+    ensures { λ r. ⌜ r ≡ memberUnder section action ⌝ }
+{
+    match section::judged(section, action) {
+        Verdict::Judged(member) => member,
+        Verdict::Unworkable => no_member(),
+    }
+}
+
 // The toe over a factored block; with no toe or no block it has no figure, and no check is made of it.
 pub fn toe_over(wall: Wall, factored: Pressed) -> Member
-    requires { ⌜ T (wallFits wall) × (factored ≡ pressedBy factoredScale (factored .block)) × Pressable (baseLength wall) (factored .block) ⌝ }
+    requires { ⌜ T (wallFits wall) × Bears wall factored ⌝ }
     ensures { λ r. ⌜ r ≡ toeUnder wall (factored .block) ⌝ }
 {
     if record::field(wall, TOE_LENGTH) == 0 {
         return no_member();
     }
-    if !bearing::is_given(factored.block) {
+    if !checks::is_given(factored.block) {
         return no_member();
     }
-    section::member(sections::toe_section(wall), toe::toe_action(wall, factored))
+    member_of(sections::toe_section(wall), toe::toe_action(wall, factored))
 }
 
-// The stem under its loads. A prop at the base gives it no relief.
-pub fn stem_under(wall: Wall, loads: Loads) -> Member
-    requires { ⌜ T (fits wall loads) ⌝ }
-    ensures { λ r. ⌜ r ≡ stem wall loads ⌝ }
+// The stem under what acts on it.
+pub fn stem_under(wall: Wall, action: Action) -> Member
+    requires { ⌜ T (wallFits wall) ⌝ }
+    ensures { λ r. ⌜ r ≡ memberUnder (stemSection wall) action ⌝ }
 {
-    section::member(
-        sections::stem_section(wall),
-        forces::stem_action(wall, loads),
-    )
+    member_of(sections::stem_section(wall), action)
 }

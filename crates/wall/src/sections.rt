@@ -1,4 +1,4 @@
-// Document 01, "Toe and stem": the sections of a wall.
+// Document 01, "Toe and stem": the cages of a wall, and its sections.
 use record::BASE_THICKNESS;
 use record::CONCRETE_STRENGTH;
 use record::LEAST_STEEL;
@@ -13,28 +13,41 @@ use record::TOE_COVER;
 use record::TOE_SPACING;
 use record::TOE_STRESS;
 use record::Wall;
+use rules::Cage;
 use rules::Section;
 ghost use mathlib.Core.Path.{_≡_};
 ghost use lib.ListN.{getD};
-ghost use Rattle.rules.specs.ToeAndStem.{sectionOf, toeSection, stemSection};
+ghost use Rattle.rules.specs.ToeAndStem.{toeCage, stemCage, sectionOf, toeSection, stemSection};
 
-// A section has its own thickness, bars and shear stress, each given by the field that it is, and the wall's materials.
-fn section_of(
-    wall: Wall,
-    thickness: usize,
-    cover: usize,
-    bar: usize,
-    spacing: usize,
-    stress: usize,
-) -> Section
-    ensures { λ r. ⌜ r ≡ sectionOf wall (getD wall thickness 0) (getD wall cover 0) (getD wall bar 0) (getD wall spacing 0) (getD wall stress 0) ⌝ }
+fn toe_cage(wall: Wall) -> Cage
+    ensures { λ r. ⌜ r ≡ toeCage wall ⌝ }
+{
+    Cage {
+        cover: record::field(wall, TOE_COVER),
+        bar: record::field(wall, TOE_BAR),
+        spacing: record::field(wall, TOE_SPACING),
+        stress: record::field(wall, TOE_STRESS),
+    }
+}
+
+fn stem_cage(wall: Wall) -> Cage
+    ensures { λ r. ⌜ r ≡ stemCage wall ⌝ }
+{
+    Cage {
+        cover: record::field(wall, STEM_COVER),
+        bar: record::field(wall, STEM_BAR),
+        spacing: record::field(wall, STEM_SPACING),
+        stress: record::field(wall, STEM_STRESS),
+    }
+}
+
+// A section has its own thickness, given by the field that it is, and its own cage, and the wall's materials.
+fn section_of(wall: Wall, thickness: usize, cage: Cage) -> Section
+    ensures { λ r. ⌜ r ≡ sectionOf wall (getD wall thickness 0) cage ⌝ }
 {
     Section {
         thickness: record::field(wall, thickness),
-        cover: record::field(wall, cover),
-        bar: record::field(wall, bar),
-        spacing: record::field(wall, spacing),
-        stress: record::field(wall, stress),
+        cage: cage,
         concrete: record::field(wall, CONCRETE_STRENGTH),
         steel: record::field(wall, STEEL_STRENGTH),
         least: record::field(wall, LEAST_STEEL),
@@ -44,25 +57,11 @@ fn section_of(
 pub fn toe_section(wall: Wall) -> Section
     ensures { λ r. ⌜ r ≡ toeSection wall ⌝ }
 {
-    section_of(
-        wall,
-        BASE_THICKNESS,
-        TOE_COVER,
-        TOE_BAR,
-        TOE_SPACING,
-        TOE_STRESS,
-    )
+    section_of(wall, BASE_THICKNESS, toe_cage(wall))
 }
 
 pub fn stem_section(wall: Wall) -> Section
     ensures { λ r. ⌜ r ≡ stemSection wall ⌝ }
 {
-    section_of(
-        wall,
-        STEM_THICKNESS,
-        STEM_COVER,
-        STEM_BAR,
-        STEM_SPACING,
-        STEM_STRESS,
-    )
+    section_of(wall, STEM_THICKNESS, stem_cage(wall))
 }

@@ -6,7 +6,7 @@ use argument::Asked;
 use libc::STDERR_FILENO;
 use libc::STDIN_FILENO;
 use libc::STDOUT_FILENO;
-use printing::LINE_ROOM;
+use text::LINE_ROOM;
 
 // The drawing of the wall with this number.
 fn draw(wall: u32) {
@@ -18,7 +18,7 @@ fn draw(wall: u32) {
     }
     let drawn = sheet::drawing(&job[..length], wall);
     let mut line = [0u8; LINE_ROOM];
-    let count = plotting::drawing_text(drawn, &mut line);
+    let count = text::drawing_text(drawn, &mut line);
     if !io::write_all(STDOUT_FILENO, &line[..count]) {
         os::fail(b"stdout");
     }

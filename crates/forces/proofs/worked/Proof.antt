@@ -3,103 +3,118 @@ use mathlib.Core.Path.{_≡_, refl, _∙_}
 use native.Mathlib.Omega.{arith}
 use borrow.Author.Needs.{needs}
 use lib.IntN.{_-ℤ_}
+use lib.ListN.{length}
 use mir.Syntax.{w64}
 use mir.Val.{toZ, ofZ}
 use mir.ValLaws.{toZ-ofZ}
 use Rattle.whole.proofs.Integer.{pos-<ℤ, nonneg-abs, fits-abs}
-use Rattle.rules.specs.Forces.{once, tenths, rests, vertical, service, factored, lastingWeight, slidingOf, workedForces}
-use Rattle.rules.proofs.Examined.{fit}
+use Rattle.rules.specs.JobFile.{mostLoadsOnWall, activeCoefficient, restCoefficient}
+use Rattle.rules.specs.Forces.{once, tenths, rests, vertical, table, service, factored, lastingWeight, slidingOf}
+use Rattle.rules.specs.Beyond.{workedForces}
+use Rattle.rules.proofs.Accepted.{wall-within}
+use Rattle.rules.proofs.Examined.{Fit, fit}
 use Rattle.rules.proofs.Sizes.{lasting-nonneg, lasting-below}
-use Rattle.components.specs.declared.Case.the-variants.{Service, Factored}
-use Rattle.components.specs.Tables.{componentsFor}
-use Rattle.forces.proofs.Summed.{small, sum-is, totals-are, light, all-light}
+use Rattle.forces.specs.Faces.{rowsOf}
+use Rattle.forces.specs.Sorts.{sortsOf, Small}
+use Rattle.forces.proofs.Summed.{Summable, wall-summable, small, sum-is, totals-are, light, all-light}
 use Rattle.forces.proofs.worked.Statement.{statement}
 use Rattle.forces.proofs.worked.Tie as tie
 
-sorts-of-requires : tie.Need-sorts-of-requires
-sorts-of-requires c κs = search needs
+-- ---- the wall fits with its loads, and its tables at Ka and at K0 can be summed
+fitted : (c : tie.Start) → Fit (c .args .wall) (c .args .loads)
+fitted c = fit _ _ (c .pre)
 
-table-of-requires : tie.Need-table-of-requires
-table-of-requires c κs = search needs
+at-Ka : (c : tie.Start) → Summable (c .args .loads) (table (activeCoefficient (c .args .wall)) (c .args .wall) (c .args .loads))
+at-Ka c = let f = fitted c in wall-summable _ _ f _ (wall-within _ (f .wall-fits) .active .1)
 
-table-of-requires-2 : tie.Need-table-of-requires-2
-table-of-requires-2 c κs = search needs
+at-K0 : (c : tie.Start) → Summable (c .args .loads) (table (restCoefficient (c .args .wall)) (c .args .wall) (c .args .loads))
+at-K0 c = let f = fitted c in wall-summable _ _ f _ (wall-within _ (f .wall-fits) .rest .1)
 
-totals-by-requires : tie.Need-totals-by-requires
-totals-by-requires c κs = (small _ _ _ (c .before .table-of .ensures) (c .before .before .sorts-of .ensures), all-light tt)
+-- the code's tables and sorts are those of the rules
+abbrev begin : (c : tie.After-of-wall2) → tie.Start
+begin c = c .before .before .before .before .before
 
-totals-by-requires-2 : tie.Need-totals-by-requires-2
-totals-by-requires-2 c κs = (small _ _ _ (c .before .table-of2 .ensures) (c .before .before .before .sorts-of .ensures), all-light tt)
+eight : (c : tie.After-of-wall2) → length (begin c .args .loads) ≡ mostLoadsOnWall
+eight c = begin c .good .1 .0 .1 .0 .1
 
-column-sum-requires : tie.Need-column-sum-requires
-column-sum-requires c κs =
-    let d = c .before .before .before in
-    (omega arith, small _ _ _ (d .table-of .ensures) (d .before .sorts-of .ensures), light tt)
+sorts-are : (c : tie.After-of-wall2) → c .before .before .before .before .sorts-of .result ≡ sortsOf (begin c .args .loads)
+sorts-are c = c .before .before .before .before .sorts-of .ensures
 
--- the code's totals
-service-is : (c : tie.After-totals-by) → let start = c .before .before .before .before in
-    c .totals-by .result ≡ service (start .args .wall) (start .args .loads)
-unfolding service componentsFor
-service-is c =
-    let d = c .before .before in
-    let start = d .before .before in
-    c .totals-by .ensures ∙ totals-are Service _ _ (d .table-of .ensures) (d .before .sorts-of .ensures) (start .good .1 .0 .1 .0 .1) (start .pre) once refl
+active-is : (c : tie.After-of-wall2) → let a = begin c .args in c .before .before .of-wall .result ≡ rowsOf (table (activeCoefficient (a .wall)) (a .wall) (a .loads))
+active-is c = let d = c .before .before in rw (d .before .field .ensures .0) at (d .of-wall .ensures)
 
-factored-is : (c : tie.After-totals-by2) → let start = c .before .before .before .before .before in
-    c .totals-by2 .result ≡ factored (start .args .wall) (start .args .loads)
-unfolding factored componentsFor
-factored-is c =
-    let d = c .before .before in
-    let s = d .before .before in
-    let start = s .before in
-    c .totals-by2 .ensures ∙ totals-are Factored _ _ (d .table-of2 .ensures) (s .sorts-of .ensures) (start .good .1 .0 .1 .0 .1) (start .pre) tenths refl
+rest-is : (c : tie.After-of-wall2) → let a = begin c .args in c .of-wall2 .result ≡ rowsOf (table (restCoefficient (a .wall)) (a .wall) (a .loads))
+rest-is c = rw (c .before .field2 .ensures .0) at (c .of-wall2 .ensures)
 
--- and what lasts of R
-lasting-is : (c : tie.After-struct-told) → let d = c .before .before in
-    let s = d .before .before in
-    let start = s .before .before .before .before in
-    toZ w64 (ofZ w64 (s .totals-by .result .vertical)) -ℤ toZ w64 (ofZ w64 (d .column-sum .result)) ≡ lastingWeight (start .args .wall) (start .args .loads)
-unfolding lastingWeight componentsFor
+active-small : (c : tie.After-of-wall2) → Small (c .before .before .of-wall .result) (c .before .before .before .before .sorts-of .result)
+active-small c = small (at-Ka (begin c)) (active-is c) (sorts-are c)
+
+rest-small : (c : tie.After-of-wall2) → Small (c .of-wall2 .result) (c .before .before .before .before .sorts-of .result)
+rest-small c = small (at-K0 (begin c)) (rest-is c) (sorts-are c)
+
+-- ---- and so are the sums
+service-is : (c : tie.After-totals-by) → let a = begin (c .before) .args in c .totals-by .result ≡ service (a .wall) (a .loads)
+unfolding service
+service-is c = let d = c .before in c .totals-by .ensures ∙ totals-are (at-Ka (begin d)) (active-is d) (sorts-are d) (eight d) once refl
+
+factored-is : (c : tie.After-totals-by2) → let a = begin (c .before .before) .args in c .totals-by2 .result ≡ factored (a .wall) (a .loads)
+unfolding factored
+factored-is c = let d = c .before .before in c .totals-by2 .ensures ∙ totals-are (at-K0 (begin d)) (rest-is d) (sorts-are d) (eight d) tenths refl
+
+-- what lasts of R, which is not negative and below what R is below
+lasting-is : (c : tie.After-column-sum) → let a = begin (c .before .before .before) .args in
+    toZ w64 (ofZ w64 (c .before .before .totals-by .result .R)) -ℤ toZ w64 (ofZ w64 (c .column-sum .result)) ≡ lastingWeight (a .wall) (a .loads)
+unfolding lastingWeight
 lasting-is c =
-    let d = c .before .before in
-    let s = d .before .before in
-    let t = s .before .before in
-    let start = t .before .before in
-    let R = toZ-ofZ w64 (s .totals-by .result .vertical) (search needs) in
-    let resting = toZ-ofZ w64 (d .column-sum .result) (search needs) in
-    let sum = sum-is Service _ _ (t .table-of .ensures) (t .before .sorts-of .ensures) (start .good .1 .0 .1 .0 .1) (start .pre) rests vertical refl in
-    rw (R, service-is s, resting, d .column-sum .ensures ∙ sum)
+    let s = c .before .before in
+    let d = s .before in
+    let R = toZ-ofZ w64 (s .totals-by .result .R) (search needs) in
+    let resting = toZ-ofZ w64 (c .column-sum .result) (search needs) in
+    rw (R, service-is s, resting, c .column-sum .ensures ∙ sum-is (at-Ka (begin d)) (active-is d) (sorts-are d) (eight d) rests vertical refl)
 
 sub-held : tie.Need-sub-held
 sub-held c =
-    let f = fit _ _ (c .before .before .before .before .before .before .before .before .pre) in
-    rw lasting-is (fits-abs _ (omega (arith, pos-<ℤ .0 (rw (nonneg-abs (lasting-nonneg _ _ f)) at (lasting-below _ _ f)))))
+    let d = c .before .before in
+    let f = fitted (begin (d .before .before .before)) in
+    rw (lasting-is d) (fits-abs _ (omega (arith, pos-<ℤ .0 (rw (nonneg-abs (lasting-nonneg _ _ f)) at (lasting-below _ _ f)))))
 
 held-requires : tie.Need-held-requires
 held-requires c κs =
-    let s = c .before .before .before .before .before in
-    let f = fit _ _ (s .before .before .before .before .pre) in
-    (f .wall-fits, rw (toZ-ofZ w64 _ (sub-held (c .before)), lasting-is (c .before)) (lasting-below _ _ f))
+    let told = c .before in
+    let d = told .before .before in
+    let f = fitted (begin (d .before .before .before)) in
+    (f .wall-fits, rw (toZ-ofZ w64 _ (sub-held told), lasting-is d) (lasting-below _ _ f))
 
 returns : tie.Need-returns
 unfolding workedForces slidingOf
 returns c =
-    let d = c .before .before .before .before .before in
-    let s = d .before in
-    let H = toZ-ofZ w64 (s .totals-by .result .horizontal) (search needs) in
-    let lasting = toZ-ofZ w64 _ (sub-held (c .before .before)) ∙ lasting-is (c .before .before) in
-    rw (c .held .ensures, lasting, H, service-is s, factored-is d)
+    let told = c .before .before .before in
+    let sums = told .before .before in
+    let second = sums .before in
+    let first = second .before in
+    let H = toZ-ofZ w64 (first .totals-by .result .H) (search needs) in
+    rw (
+      c .stem-action .ensures,
+      c .before .held .ensures,
+      toZ-ofZ w64 _ (sub-held told) ∙ lasting-is sums,
+      H,
+      service-is first,
+      factored-is second,
+    )
 
 pub worked-spec : {M : Type 1} → statement M
 worked-spec =
     tie.close
     (tie.spec
-    sorts-of-requires
-    table-of-requires
-    table-of-requires-2
-    totals-by-requires
-    totals-by-requires-2
-    column-sum-requires
+    (λ c κs. search needs)
+    (λ c κs. search needs)
+    (λ c κs. let f = fitted (c .before .before) in (c .before .before .pre, omega (arith, wall-within _ (f .wall-fits))))
+    (λ c κs. search needs)
+    (λ c κs. let start = c .before .before .before .before in (start .pre, omega (arith, wall-within _ (fitted start .wall-fits))))
+    (λ c κs. (active-small c, all-light tt))
+    (λ c κs. (rest-small (c .before), all-light tt))
+    (λ c κs. (omega arith, active-small (c .before .before), light tt))
     sub-held
     held-requires
+    (λ c κs. let d = c .before .before .before .before .before .before .before in (begin d .pre, sorts-are d))
     returns)

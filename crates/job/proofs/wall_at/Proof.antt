@@ -1,70 +1,12 @@
--- `job::wall_at` meets its contract. The invariant: the numbers passed are read.
-use mathlib.Core.Path.{refl}
-use Prim.Native.Nat.{_-_}
-use native.Mathlib.Omega.{arith}
-use Rattle.rules.specs.JobFile.{wallFields, wallAt}
-use Rattle.job.proofs.Records.{Read, none-read, one-more, all-read}
+-- `job::wall_at` meets its contract.
+use borrow.Author.Needs.{needs}
+use Rattle.rules.specs.JobFile.{wallAt}
 use Rattle.job.proofs.wall_at.Statement.{statement}
 use Rattle.job.proofs.wall_at.Tie as tie
 
-abbrev Inv-loop : tie.InvT-loop
-Inv-loop file i at wall₀ k₀ wall k = Read file at wallFields k wall
-
-abbrev μ-loop : tie.MeasureT-loop
-μ-loop file i at wall₀ k₀ wall k = wallFields - k
-
-mul-at : tie.Need-mul-at Inv-loop μ-loop
-mul-at c = omega arith
-
-add-at : tie.Need-add-at Inv-loop μ-loop
-add-at c = omega arith
-
-loop-holds : tie.Need-loop-holds Inv-loop μ-loop
-loop-holds c = none-read _ _ _ _ refl
-
-mul-u32-at : tie.Need-mul-u32-at Inv-loop μ-loop
-mul-u32-at c = omega arith
-
-add-u32-at : tie.Need-add-u32-at Inv-loop μ-loop
-add-u32-at c = omega arith
-
-u32-at-requires : tie.Need-u32-at-requires Inv-loop μ-loop
-u32-at-requires c κs = tt
-
-mul-wall : tie.Need-mul-wall Inv-loop μ-loop
-mul-wall c = omega arith
-
-array-write-wall : tie.Need-array-write-wall Inv-loop μ-loop
-array-write-wall c = omega arith
-
-add-k : tie.Need-add-k Inv-loop μ-loop
-add-k c = omega arith
-
-loop-less : tie.Need-loop-less Inv-loop μ-loop
-loop-less c = omega arith
-
-loop-again : tie.Need-loop-again Inv-loop μ-loop
-loop-again c = one-more _ _ _ _ _ _ (c .before .loop-test .taken) (c .u32-at .ensures) (c .before .before .loop .inv)
-
-returns : tie.Need-returns Inv-loop μ-loop
+returns : tie.Need-returns
 unfolding wallAt
-returns c = all-read _ _ _ _ _ (c .loop-test .left) (c .before .loop .inv)
+returns c = cc
 
 pub wall-at-spec : {M : Type 1} → statement M
-wall-at-spec =
-    tie.close
-    (tie.spec
-    Inv-loop
-    μ-loop
-    mul-at
-    add-at
-    loop-holds
-    mul-u32-at
-    add-u32-at
-    u32-at-requires
-    mul-wall
-    array-write-wall
-    add-k
-    loop-less
-    loop-again
-    returns)
+wall-at-spec = tie.close (tie.spec (λ c κs. tt) (λ c. search needs) (λ c κs. search needs) returns)

@@ -7,8 +7,7 @@ use native.Mathlib.Omega.{arith}
 use lib.Ieee.{Float}
 use lib.ListN.{length, set}
 use borrow.Rule.Slice.PartMut.{same-len-mid}
-use Rattle.rules.specs.SheetLine.{Put}
-use Rattle.rules.specs.Drawing.{figures}
+use Rattle.rules.specs.Beyond.{Put, figures}
 use Rattle.rules.proofs.Putting.{then-byte, then-text, put-length, left-behind}
 use Rattle.office.proofs.put_figures.Statement.{statement}
 use Rattle.office.proofs.put_figures.Tie as tie
@@ -18,7 +17,7 @@ start c = c .before .before .before .before
 
 -- the first three figures, and the buffer when they are put
 abbrev three : tie.After-put-pair → List Float
-three c = let d = start c .args .drawn .drawing in d .vertical ∷ d .horizontal ∷ d .distance ∷ []
+three c = let d = start c .args .drawn .drawing in d .R ∷ d .H ∷ d .distance ∷ []
 
 abbrev after : tie.After-put-pair → List Float
 after c = set (c .put-pair .last .1 .1 .0) 2 (start c .args .drawn .drawing .distance)

@@ -1,7 +1,6 @@
 -- `office::put_shape` meets its contract.
 use borrow.Author.Needs.{needs}
-use Rattle.rules.specs.SheetLine.{onto}
-use Rattle.rules.specs.Drawing.{shapeFigures}
+use Rattle.rules.specs.Beyond.{onto, shapeFigures}
 use Rattle.office.proofs.put_shape.Statement.{statement}
 use Rattle.office.proofs.put_shape.Tie as tie
 

@@ -7,18 +7,6 @@ use lib.ListN.{length, List·getD-eq-default}
 use Rattle.record.proofs.field.Statement.{statement}
 use Rattle.record.proofs.field.Tie as tie
 
-mul-wide : tie.Need-mul-wide
-mul-wide c = search needs
-
-array-read-wide : tie.Need-array-read-wide
-array-read-wide c = search needs
-
-wide-requires : tie.Need-wide-requires
-wide-requires c κs = search needs
-
-returns : tie.Need-returns
-returns c = search needs
-
 returns-2 : tie.Need-returns-2
 returns-2 c =
     let n = c .before .good .0 .1 .0 .1 in
@@ -26,4 +14,4 @@ returns-2 c =
     (sym (List·getD-eq-default (c .before .args .t1) 0 past), omega arith)
 
 pub field-spec : {M : Type 1} → statement M
-field-spec = tie.close (tie.spec mul-wide array-read-wide wide-requires returns returns-2)
+field-spec = tie.close (tie.spec (λ c. search needs) (λ c. search needs) (λ c κs. search needs) (λ c. search needs) returns-2)

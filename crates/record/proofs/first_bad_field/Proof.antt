@@ -41,30 +41,9 @@ Inv-loop wall its top i₀ i = (i ≤ wallFields) × (firstBadField wall ≡ fir
 abbrev μ-loop : tie.MeasureT-loop
 μ-loop wall its top i₀ i = wallFields - i
 
-wall-height-requires : tie.Need-wall-height-requires Inv-loop μ-loop
-wall-height-requires c κs = tt
-
 loop-holds : tie.Need-loop-holds Inv-loop μ-loop
 unfolding firstBadField
 loop-holds c = (omega arith, refl)
-
-mul-is-within : tie.Need-mul-is-within Inv-loop μ-loop
-mul-is-within c = omega arith
-
-array-copy-out-is-within : tie.Need-array-copy-out-is-within Inv-loop μ-loop
-array-copy-out-is-within c = omega arith
-
-mul-is-within-2 : tie.Need-mul-is-within-2 Inv-loop μ-loop
-mul-is-within-2 c = omega arith
-
-array-read-is-within : tie.Need-array-read-is-within Inv-loop μ-loop
-array-read-is-within c = omega arith
-
-is-within-requires : tie.Need-is-within-requires Inv-loop μ-loop
-is-within-requires c κs = tt
-
-add-result : tie.Need-add-result Inv-loop μ-loop
-add-result c = omega arith
 
 returns : tie.Need-returns Inv-loop μ-loop
 returns c =
@@ -72,12 +51,6 @@ returns c =
     let outside = sym (c .before .is-within .ensures _ (asked .before .before .wall-height .ensures)) ∙ not-true _ (c .if1 .taken) in
     let step = stops _ _ _ (inside ranges _ _ _ (asked .loop-test .taken)) (asked .loop-test .taken) outside in
     rw add-one (sym (asked .before .loop .inv .1 ∙ step))
-
-add-i : tie.Need-add-i Inv-loop μ-loop
-add-i c = omega arith
-
-loop-less : tie.Need-loop-less Inv-loop μ-loop
-loop-less c = omega arith
 
 loop-again : tie.Need-loop-again Inv-loop μ-loop
 loop-again c =
@@ -96,16 +69,16 @@ first-bad-field-spec =
     (tie.spec
     Inv-loop
     μ-loop
-    wall-height-requires
+    (λ c κs. tt)
     loop-holds
-    mul-is-within
-    array-copy-out-is-within
-    mul-is-within-2
-    array-read-is-within
-    is-within-requires
-    add-result
+    (λ c. omega arith)
+    (λ c. omega arith)
+    (λ c. omega arith)
+    (λ c. omega arith)
+    (λ c κs. tt)
+    (λ c. omega arith)
     returns
-    add-i
-    loop-less
+    (λ c. omega arith)
+    (λ c. omega arith)
     loop-again
     returns-2)

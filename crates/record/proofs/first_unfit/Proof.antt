@@ -8,7 +8,8 @@ use native.Mathlib.Numerals.{add-one}
 use borrow.Author.Tests.{not-true, not-false}
 use lib.ListN.{length, drop, getD, drop-of-length-le}
 use lib.Seq.{drop-cons}
-use Rattle.rules.specs.JobFile.{Wall, Load, mostLoadsOnWall, loadFits, firstUnfit}
+use Rattle.rules.specs.JobFile.{Wall, Load, mostLoadsOnWall, loadFits}
+use Rattle.rules.specs.Beyond.{firstUnfit}
 use Rattle.record.proofs.first_unfit.Statement.{statement}
 use Rattle.record.proofs.first_unfit.Tie as tie
 
@@ -31,21 +32,6 @@ abbrev μ-loop : tie.MeasureT-loop
 loop-holds : tie.Need-loop-holds Inv-loop μ-loop
 loop-holds c = (omega arith, refl)
 
-mul-load-fits : tie.Need-mul-load-fits Inv-loop μ-loop
-mul-load-fits c = omega arith
-
-array-copy-out-load-fits : tie.Need-array-copy-out-load-fits Inv-loop μ-loop
-array-copy-out-load-fits c = omega arith
-
-load-fits-requires : tie.Need-load-fits-requires Inv-loop μ-loop
-load-fits-requires c κs = tt
-
-cast-result : tie.Need-cast-result Inv-loop μ-loop
-cast-result c = omega arith
-
-add-result : tie.Need-add-result Inv-loop μ-loop
-add-result c = omega arith
-
 returns : tie.Need-returns Inv-loop μ-loop
 returns c =
     let d = c .before .before .before .before in
@@ -53,12 +39,6 @@ returns c =
     let unfit = sym (c .before .load-fits .ensures) ∙ not-true _ (c .if1 .taken) in
     let first = d .loop .inv .1 ∙ stops _ _ _ (omega arith) unfit in
     omega arith
-
-add-i : tie.Need-add-i Inv-loop μ-loop
-add-i c = omega arith
-
-loop-less : tie.Need-loop-less Inv-loop μ-loop
-loop-less c = omega arith
 
 loop-again : tie.Need-loop-again Inv-loop μ-loop
 loop-again c =
@@ -82,13 +62,13 @@ first-unfit-spec =
     Inv-loop
     μ-loop
     loop-holds
-    mul-load-fits
-    array-copy-out-load-fits
-    load-fits-requires
-    cast-result
-    add-result
+    (λ c. omega arith)
+    (λ c. omega arith)
+    (λ c κs. tt)
+    (λ c. omega arith)
+    (λ c. omega arith)
     returns
-    add-i
-    loop-less
+    (λ c. omega arith)
+    (λ c. omega arith)
     loop-again
     returns-2)

@@ -5,17 +5,8 @@ use Rattle.rules.specs.JobFile.{within}
 use Rattle.record.proofs.is_within.Statement.{statement}
 use Rattle.record.proofs.is_within.Tie as tie
 
-enum-known-range : tie.Need-enum-known-range
-enum-known-range c = search needs
-
 enum-told : tie.Need-enum-told
 enum-told c = search needs
-
-enum-told-2 : tie.Need-enum-told-2
-enum-told-2 c = search needs
-
-is-bar-requires : tie.Need-is-bar-requires
-is-bar-requires c κs = search needs
 
 returns : tie.Need-returns
 unfolding within
@@ -37,10 +28,10 @@ pub is-within-spec : {M : Type 1} → statement M
 is-within-spec =
     tie.close
     (tie.spec
-    enum-known-range
+    (λ c. search needs)
     enum-told
-    enum-told-2
-    is-bar-requires
+    (λ c. search needs)
+    (λ c κs. search needs)
     returns
     returns-2
     returns-3

@@ -17,33 +17,15 @@ second-fails a b c d e f = rw (e, f)
 third-fails : (a b c d : Bool) → a ≡ true → b ≡ true → c ≡ false → (a && b && c && d) ≡ c
 third-fails a b c d e f g = rw (e, f, g)
 
-array-read-if1 : tie.Need-array-read-if1
-array-read-if1 c = search needs
-
 returns : tie.Need-returns
 unfolding loadFits
 returns c = simp (lt-leb _ _ (c .if1 .taken))
-
-reach-of-requires : tie.Need-reach-of-requires
-reach-of-requires c κs = search needs
-
-array-read-if2 : tie.Need-array-read-if2
-array-read-if2 c = search needs
-
-cast-if2 : tie.Need-cast-if2
-cast-if2 c = search needs
 
 returns-2 : tie.Need-returns-2
 unfolding loadFits
 returns-2 c =
     let beyond = lt-leb _ _ (rw (c .before .reach-of .ensures) at (c .if2 .taken)) in
     sym (second-fails _ _ _ _ (le-leb _ _ (c .before .before .if1 .left)) beyond)
-
-array-read-if3 : tie.Need-array-read-if3
-array-read-if3 c = search needs
-
-array-read-result : tie.Need-array-read-result
-array-read-result c = search needs
 
 returns-3 : tie.Need-returns-3
 unfolding loadFits
@@ -61,13 +43,13 @@ pub load-fits-spec : {M : Type 1} → statement M
 load-fits-spec =
     tie.close
     (tie.spec
-    array-read-if1
+    (λ c. search needs)
     returns
-    reach-of-requires
-    array-read-if2
-    cast-if2
+    (λ c κs. search needs)
+    (λ c. search needs)
+    (λ c. search needs)
     returns-2
-    array-read-if3
-    array-read-result
+    (λ c. search needs)
+    (λ c. search needs)
     returns-3
     returns-4)

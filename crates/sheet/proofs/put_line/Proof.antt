@@ -8,7 +8,8 @@ use lib.IntN.{ℤ, pos}
 use mathlib.Core.List.{List}
 use mir.Syntax.{w64}
 use mir.ValLaws.{toZ-ofZ}
-use Rattle.rules.specs.SheetLine.{lineNumbers, onto}
+use Rattle.rules.specs.SheetLine.{lineNumbers}
+use Rattle.rules.specs.Beyond.{onto}
 use Rattle.rules.proofs.Putting.{onto-length, onto-one-more}
 use Rattle.sheet.proofs.put_line.Statement.{statement}
 use Rattle.sheet.proofs.put_line.Tie as tie

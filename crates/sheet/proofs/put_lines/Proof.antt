@@ -6,7 +6,8 @@ use mathlib.Core.List.{List}
 use lib.IntN.{ℤ}
 use lib.ListN.{length}
 use Rattle.rules.specs.JobFile.{mostWalls, wallCount}
-use Rattle.rules.specs.SheetLine.{lineNumbers, sheet, onto}
+use Rattle.rules.specs.SheetLine.{lineNumbers, sheet}
+use Rattle.rules.specs.Beyond.{onto}
 use Rattle.rules.proofs.AcceptedFile.{wall-count}
 use Rattle.rules.proofs.Putting.{behind, put-length, left-behind}
 use Rattle.sheet.proofs.Pieces.{Pieced, none-put, one-further, all-put}

@@ -6,7 +6,8 @@ use lib.Ieee.Bits.{is-true}
 use lib.ListN.{length, length-map}
 use Rattle.rules.specs.JobFile.{mostWalls, wallCount}
 use Rattle.rules.specs.Answered.{accepted}
-use Rattle.rules.specs.SheetLine.{lineRoom, sheet, lineText, printed, Put}
+use Rattle.rules.specs.SheetLine.{sheet, lineText, printed}
+use Rattle.rules.specs.Beyond.{lineRoom, Put}
 use Rattle.rules.proofs.AcceptedFile.{wall-count}
 use Rattle.rules.proofs.Fitting.{put-whole}
 use Rattle.rules.proofs.Putting.{behind, put-length, left-behind}

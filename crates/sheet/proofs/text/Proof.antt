@@ -3,7 +3,8 @@ use mathlib.Core.Path.{sym, _∙_}
 use native.Mathlib.Omega.{arith}
 use borrow.Author.Needs.{needs}
 use borrow.Author.Tests.{not-true, not-false}
-use Rattle.rules.specs.SheetLine.{lineRoom, sheetRoom, printed}
+use Rattle.rules.specs.SheetLine.{printed}
+use Rattle.rules.specs.Beyond.{lineRoom, sheetRoom}
 use Rattle.rules.proofs.Fitting.{put-nothing, put-fitting, put-whole}
 use Rattle.sheet.proofs.text.Statement.{statement}
 use Rattle.sheet.proofs.text.Tie as tie

@@ -9,9 +9,6 @@ use Rattle.bearing.proofs.Cases.{none, made}
 use Rattle.bearing.proofs.block.block_above_zero.Statement.{statement}
 use Rattle.bearing.proofs.block.block_above_zero.Tie as tie
 
-no-block-requires : tie.Need-no-block-requires
-no-block-requires c κs = search needs
-
 returns : tie.Need-returns
 returns c = c .no-block .ensures ∙ sym (none _ _ _ (c .before .if1 .taken))
 
@@ -49,7 +46,7 @@ pub block-above-zero-spec : {M : Type 1} → statement M
 block-above-zero-spec =
     tie.close
     (tie.spec
-    no-block-requires
+    (λ c κs. search needs)
     returns
     mul-low
     mul-low-2

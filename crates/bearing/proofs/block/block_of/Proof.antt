@@ -9,17 +9,11 @@ use Rattle.bearing.proofs.block.block_of.Statement.{statement}
 use Rattle.bearing.proofs.block.block_of.Tie as tie
 
 -- what the two calls with a signed total give, of the total itself
-vertical-is : (c : tie.After-above-zero) → c .above-zero .result ≡ aboveZero (c .before .before .args .totals .vertical)
-vertical-is c = c .above-zero .ensures ∙ ap aboveZero (toZ-ofZ w64 (c .before .before .args .totals .vertical) (search needs))
+vertical-is : (c : tie.After-above-zero) → c .above-zero .result ≡ aboveZero (c .before .before .args .totals .R)
+vertical-is c = c .above-zero .ensures ∙ ap aboveZero (toZ-ofZ w64 (c .before .before .args .totals .R) (search needs))
 
-moment-is : (c : tie.After-above-zero2) → c .above-zero2 .result ≡ aboveZero (c .before .before .before .before .args .totals .moment)
-moment-is c = c .above-zero2 .ensures ∙ ap aboveZero (toZ-ofZ w64 (c .before .before .before .before .args .totals .moment) (search needs))
-
-above-zero-requires : tie.Need-above-zero-requires
-above-zero-requires c κs = search needs
-
-above-zero-requires-2 : tie.Need-above-zero-requires-2
-above-zero-requires-2 c κs = search needs
+moment-is : (c : tie.After-above-zero2) → c .above-zero2 .result ≡ aboveZero (c .before .before .before .before .args .totals .M6)
+moment-is c = c .above-zero2 .ensures ∙ ap aboveZero (toZ-ofZ w64 (c .before .before .before .before .args .totals .M6) (search needs))
 
 block-above-zero-requires : tie.Need-block-above-zero-requires
 block-above-zero-requires c κs = rw (vertical-is (c .before .before), moment-is c) (c .before .before .before .before .pre .1)
@@ -30,4 +24,4 @@ returns c =
     c .block-above-zero .ensures ∙ rw (vertical-is (c .before .before .before), moment-is (c .before)) (sym (whole-block _ _ _ (start .pre .0)))
 
 pub block-of-spec : {M : Type 1} → statement M
-block-of-spec = tie.close (tie.spec above-zero-requires above-zero-requires-2 block-above-zero-requires returns)
+block-of-spec = tie.close (tie.spec (λ c κs. search needs) (λ c κs. search needs) block-above-zero-requires returns)

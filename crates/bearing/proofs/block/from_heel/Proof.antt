@@ -7,29 +7,14 @@ use Rattle.bearing.proofs.Cases.{heel-figures}
 use Rattle.bearing.proofs.block.from_heel.Statement.{statement}
 use Rattle.bearing.proofs.block.from_heel.Tie as tie
 
-mul-n : tie.Need-mul-n
-mul-n c = search needs
-
 mul-n-2 : tie.Need-mul-n-2
 mul-n-2 c = record { fits = omega (arith, bounds (c .pre)) }
-
-sub-n : tie.Need-sub-n
-sub-n c = search needs
-
-over-requires : tie.Need-over-requires
-over-requires c κs = search needs
-
-mul-over : tie.Need-mul-over
-mul-over c = search needs
 
 mul-over-2 : tie.Need-mul-over-2
 mul-over-2 c = record { fits = omega (arith, bounds (c .before .pre)) }
 
 over-requires-2 : tie.Need-over-requires-2
 over-requires-2 c κs = let b = bounds (c .before .pre) in (omega arith, omega arith)
-
-mul-over-3 : tie.Need-mul-over-3
-mul-over-3 c = search needs
 
 over-requires-3 : tie.Need-over-requires-3
 over-requires-3 c κs = let b = bounds (c .before .before .pre) in (omega arith, omega (arith, c .before .before .pre))
@@ -41,13 +26,13 @@ pub from-heel-spec : {M : Type 1} → statement M
 from-heel-spec =
     tie.close
     (tie.spec
-    mul-n
+    (λ c. search needs)
     mul-n-2
-    sub-n
-    over-requires
-    mul-over
+    (λ c. search needs)
+    (λ c κs. search needs)
+    (λ c. search needs)
     mul-over-2
     over-requires-2
-    mul-over-3
+    (λ c. search needs)
     over-requires-3
     returns)

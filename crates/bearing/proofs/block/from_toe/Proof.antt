@@ -7,20 +7,11 @@ use Rattle.bearing.proofs.Cases.{toe-figures}
 use Rattle.bearing.proofs.block.from_toe.Statement.{statement}
 use Rattle.bearing.proofs.block.from_toe.Tie as tie
 
-mul-over : tie.Need-mul-over
-mul-over c = search needs
-
 mul-over-2 : tie.Need-mul-over-2
 mul-over-2 c = record { fits = omega (arith, bounds (c .pre)) }
 
 over-requires : tie.Need-over-requires
 over-requires c κs = let b = bounds (c .pre) in (omega (arith, c .pre), omega (arith, c .pre))
-
-over-requires-2 : tie.Need-over-requires-2
-over-requires-2 c κs = search needs
-
-mul-over-3 : tie.Need-mul-over-3
-mul-over-3 c = search needs
 
 over-requires-3 : tie.Need-over-requires-3
 over-requires-3 c κs = let b = bounds (c .before .before .pre) in (omega (arith, c .before .before .pre), omega (arith, c .before .before .pre))
@@ -31,4 +22,4 @@ returns c = rw (c .before .before .over .ensures, c .before .over2 .ensures, c .
 pub from-toe-spec : {M : Type 1} → statement M
 from-toe-spec =
     tie.close
-    (tie.spec mul-over mul-over-2 over-requires over-requires-2 mul-over-3 over-requires-3 returns)
+    (tie.spec (λ c. search needs) mul-over-2 over-requires (λ c κs. search needs) (λ c. search needs) over-requires-3 returns)

@@ -7,14 +7,8 @@ use Rattle.bearing.proofs.Cases.{full-figures}
 use Rattle.bearing.proofs.block.full.Statement.{statement}
 use Rattle.bearing.proofs.block.full.Tie as tie
 
-mul-over : tie.Need-mul-over
-mul-over c = search needs
-
 mul-over-2 : tie.Need-mul-over-2
 mul-over-2 c = record { fits = omega (arith, bounds (c .pre .0)) }
-
-sub-over : tie.Need-sub-over
-sub-over c = search needs
 
 mul-over-3 : tie.Need-mul-over-3
 mul-over-3 c = record { fits = omega (arith, bounds (c .pre .0)) }
@@ -22,23 +16,11 @@ mul-over-3 c = record { fits = omega (arith, bounds (c .pre .0)) }
 over-requires : tie.Need-over-requires
 over-requires c κs = let b = bounds (c .pre .0) in (omega arith, omega arith)
 
-mul-over-4 : tie.Need-mul-over-4
-mul-over-4 c = search needs
-
-mul-over-5 : tie.Need-mul-over-5
-mul-over-5 c = search needs
-
-sub-over-2 : tie.Need-sub-over-2
-sub-over-2 c = search needs
-
 mul-over-6 : tie.Need-mul-over-6
 mul-over-6 c = record { fits = omega (arith, bounds (c .before .pre .0)) }
 
 over-requires-2 : tie.Need-over-requires-2
 over-requires-2 c κs = let b = bounds (c .before .pre .0) in (omega (arith, c .before .pre), omega arith)
-
-over-requires-3 : tie.Need-over-requires-3
-over-requires-3 c κs = search needs
 
 returns : tie.Need-returns
 returns c = rw (c .before .before .over .ensures, c .before .over2 .ensures, c .over3 .ensures) (sym (full-figures _ _ _ (c .before .before .before .pre .1) (c .before .before .before .pre .2)))
@@ -47,15 +29,15 @@ pub full-spec : {M : Type 1} → statement M
 full-spec =
     tie.close
     (tie.spec
-    mul-over
+    (λ c. search needs)
     mul-over-2
-    sub-over
+    (λ c. search needs)
     mul-over-3
     over-requires
-    mul-over-4
-    mul-over-5
-    sub-over-2
+    (λ c. search needs)
+    (λ c. search needs)
+    (λ c. search needs)
     mul-over-6
     over-requires-2
-    over-requires-3
+    (λ c κs. search needs)
     returns)

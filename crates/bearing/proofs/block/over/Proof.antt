@@ -5,14 +5,8 @@ use mir.ValLaws.{toZ-pos}
 use Rattle.bearing.proofs.block.over.Statement.{statement}
 use Rattle.bearing.proofs.block.over.Tie as tie
 
-cast-t3 : tie.Need-cast-t3
-cast-t3 c = search needs
-
-cast-t4 : tie.Need-cast-t4
-cast-t4 c = search needs
-
 returns : tie.Need-returns
 returns c = rw (toZ-pos w64 (c .args .a) (c .pre .0), toZ-pos w64 (c .args .b) (c .pre .1))
 
 pub over-spec : {M : Type 1} → statement M
-over-spec = tie.close (tie.spec cast-t3 cast-t4 returns)
+over-spec = tie.close (tie.spec (λ c. search needs) (λ c. search needs) returns)

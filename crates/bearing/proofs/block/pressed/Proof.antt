@@ -13,12 +13,6 @@ report-requires c κs = c .pre .toe
 report-requires-2 : tie.Need-report-requires-2
 report-requires-2 c κs = c .before .pre .heel
 
-greater-requires : tie.Need-greater-requires
-greater-requires c κs = search needs
-
-no-block-requires : tie.Need-no-block-requires
-no-block-requires c κs = search needs
-
 returns : tie.Need-returns
 returns c =
     let d = c .before .before in
@@ -32,4 +26,4 @@ returns-2 c =
     is-given _ _ _ _ (d .before .before .report .ensures) (d .before .report2 .ensures) (rw (d .greater .ensures) at low)
 
 pub pressed-spec : {M : Type 1} → statement M
-pressed-spec = tie.close (tie.spec report-requires report-requires-2 greater-requires no-block-requires returns returns-2)
+pressed-spec = tie.close (tie.spec report-requires report-requires-2 (λ c κs. search needs) (λ c κs. search needs) returns returns-2)

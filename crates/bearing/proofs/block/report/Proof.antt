@@ -7,18 +7,9 @@ use Rattle.rules.specs.Bearing.{reported}
 use Rattle.bearing.proofs.block.report.Statement.{statement}
 use Rattle.bearing.proofs.block.report.Tie as tie
 
-above-zero-requires : tie.Need-above-zero-requires
-above-zero-requires c κs = search needs
-
 mul-rounded-up : tie.Need-mul-rounded-up
 mul-rounded-up c =
     record { fits = rw (c .above-zero .ensures, toZ-ofZ w64 _ (record { sfits = c .before .struct-told .given .0 .1 })) (let small = c .before .before .pre in omega arith) }
-
-above-zero-requires-2 : tie.Need-above-zero-requires-2
-above-zero-requires-2 c κs = search needs
-
-rounded-up-requires : tie.Need-rounded-up-requires
-rounded-up-requires c κs = search needs
 
 returns : tie.Need-returns
 unfolding reported
@@ -31,4 +22,4 @@ returns c =
 pub report-spec : {M : Type 1} → statement M
 report-spec =
     tie.close
-    (tie.spec above-zero-requires mul-rounded-up above-zero-requires-2 rounded-up-requires returns)
+    (tie.spec (λ c κs. search needs) mul-rounded-up (λ c κs. search needs) (λ c κs. search needs) returns)

@@ -15,19 +15,10 @@ use Rattle.forces.proofs.sliding.friction_under.Tie as tie
 lasting-is : (c : tie.After-above-zero) → c .above-zero .result ≡ aboveZero (c .before .before .args .lasting)
 lasting-is c = c .above-zero .ensures ∙ ap aboveZero (toZ-ofZ (c .before .before .fits .lasting))
 
-field-requires : tie.Need-field-requires
-field-requires c κs = search needs
-
-above-zero-requires : tie.Need-above-zero-requires
-above-zero-requires c κs = search needs
-
 mul-rounded-down : tie.Need-mul-rounded-down
 mul-rounded-down c =
     let start = c .before .before in
     two-fit (omega (arith, lasting-is c, above-most _ (start .pre .1), wall-within _ (start .pre .0)))
-
-rounded-down-requires : tie.Need-rounded-down-requires
-rounded-down-requires c κs = search needs
 
 returns : tie.Need-returns
 unfolding frictionUnder
@@ -36,4 +27,4 @@ returns c = rw (lasting-is (c .before), c .before .before .field .ensures .0) at
 pub friction-under-spec : {M : Type 1} → statement M
 friction-under-spec =
     tie.close
-    (tie.spec field-requires above-zero-requires mul-rounded-down rounded-down-requires returns)
+    (tie.spec (λ c κs. search needs) (λ c κs. search needs) mul-rounded-down (λ c κs. search needs) returns)

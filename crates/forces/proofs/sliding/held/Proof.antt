@@ -16,28 +16,13 @@ use Rattle.forces.proofs.sliding.held.Tie as tie
 friction-is : (c : tie.After-friction-under) → c .friction-under .result ≡ frictionUnder (c .before .before .args .wall) (c .before .before .args .lasting)
 friction-is c = c .friction-under .ensures ∙ ap (frictionUnder _) (toZ-ofZ (c .before .before .fits .lasting))
 
-push-is : (c : tie.After-above-zero) → c .above-zero .result ≡ aboveZero (c .before .before .before .args .horizontal)
-push-is c = c .above-zero .ensures ∙ ap aboveZero (toZ-ofZ (c .before .before .before .fits .horizontal))
-
-passive-force-requires : tie.Need-passive-force-requires
-passive-force-requires c κs = search needs
-
-friction-under-requires : tie.Need-friction-under-requires
-friction-under-requires c κs = search needs
+push-is : (c : tie.After-above-zero) → c .above-zero .result ≡ aboveZero (c .before .before .before .args .pushing)
+push-is c = c .above-zero .ensures ∙ ap aboveZero (toZ-ofZ (c .before .before .before .fits .pushing))
 
 add-holding : tie.Need-add-holding
 add-holding c =
     let w = wall-within _ (c .before .before .pre .0) in
     omega (arith, friction-is c, passive-most w, friction-most w (c .before .before .pre .1))
-
-above-zero-requires : tie.Need-above-zero-requires
-above-zero-requires c κs = search needs
-
-field-requires : tie.Need-field-requires
-field-requires c κs = search needs
-
-excess-requires : tie.Need-excess-requires
-excess-requires c κs = search needs
 
 returns : tie.Need-returns
 unfolding slidingUnder isPropped
@@ -68,11 +53,11 @@ pub held-spec : {M : Type 1} → statement M
 held-spec =
     tie.close
     (tie.spec
-    passive-force-requires
-    friction-under-requires
+    (λ c κs. search needs)
+    (λ c κs. search needs)
     add-holding
-    above-zero-requires
-    field-requires
-    excess-requires
+    (λ c κs. search needs)
+    (λ c κs. search needs)
+    (λ c κs. search needs)
     returns
     returns-2)

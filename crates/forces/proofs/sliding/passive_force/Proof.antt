@@ -7,27 +7,6 @@ use Rattle.whole.proofs.Factors.{two-fit, pairs-fit}
 use Rattle.forces.proofs.sliding.passive_force.Statement.{statement}
 use Rattle.forces.proofs.sliding.passive_force.Tie as tie
 
-field-requires : tie.Need-field-requires
-field-requires c κs = search needs
-
-field-requires-2 : tie.Need-field-requires-2
-field-requires-2 c κs = search needs
-
-add-covered : tie.Need-add-covered
-add-covered c = search needs
-
-field-requires-3 : tie.Need-field-requires-3
-field-requires-3 c κs = search needs
-
-excess-requires : tie.Need-excess-requires
-excess-requires c κs = search needs
-
-field-requires-4 : tie.Need-field-requires-4
-field-requires-4 c κs = search needs
-
-field-requires-5 : tie.Need-field-requires-5
-field-requires-5 c κs = search needs
-
 mul-rounded-down : tie.Need-mul-rounded-down
 mul-rounded-down c = two-fit (omega (arith, wall-within _ (c .before .before .before .before .before .before .pre)))
 
@@ -36,9 +15,6 @@ mul-rounded-down-2 c = two-fit (omega (arith, wall-within _ (c .before .before .
 
 mul-rounded-down-3 : tie.Need-mul-rounded-down-3
 mul-rounded-down-3 c = pairs-fit (omega (arith, wall-within _ (c .before .before .before .before .before .before .pre)))
-
-rounded-down-requires : tie.Need-rounded-down-requires
-rounded-down-requires c κs = search needs
 
 returns : tie.Need-returns
 unfolding passive passiveDepth
@@ -58,15 +34,15 @@ pub passive-force-spec : {M : Type 1} → statement M
 passive-force-spec =
     tie.close
     (tie.spec
-    field-requires
-    field-requires-2
-    add-covered
-    field-requires-3
-    excess-requires
-    field-requires-4
-    field-requires-5
+    (λ c κs. search needs)
+    (λ c κs. search needs)
+    (λ c. search needs)
+    (λ c κs. search needs)
+    (λ c κs. search needs)
+    (λ c κs. search needs)
+    (λ c κs. search needs)
     mul-rounded-down
     mul-rounded-down-2
     mul-rounded-down-3
-    rounded-down-requires
+    (λ c κs. search needs)
     returns)

@@ -10,7 +10,7 @@ use mir.Syntax.{w64}
 use mir.Val.{SFits, ofZ, toZ}
 use Rattle.whole.specs.Sum.{sumTo}
 use Rattle.whole.proofs.Integer.{abs-add, abs-weighted, fits-abs, back}
-use Rattle.components.specs.Tables.{components}
+use Rattle.forces.specs.Tables.{components}
 use Rattle.forces.specs.Sorts.{weighted, weightedSum, Small, Light}
 use Rattle.forces.proofs.Summed.{sum-within}
 use Rattle.forces.proofs.sums.column_sum.Statement.{statement}
@@ -79,41 +79,17 @@ loop-holds : tie.Need-loop-holds Inv-loop μ-loop
 unfolding sumTo
 loop-holds c = record { within = omega arith; small = c .pre .1; light = c .pre .2; same = refl }
 
-mul-sum : tie.Need-mul-sum Inv-loop μ-loop
-mul-sum c = omega arith
-
-array-read-sum : tie.Need-array-read-sum Inv-loop μ-loop
-array-read-sum c = omega arith
-
 mul-sum-2 : tie.Need-mul-sum-2 Inv-loop μ-loop
 mul-sum-2 c = omega (arith, c .before .loop .inv .small .sorted (c .before .loop .i))
 
 array-copy-out-sum : tie.Need-array-copy-out-sum Inv-loop μ-loop
 array-copy-out-sum c = omega (arith, c .before .loop .inv .small .sorted (c .before .loop .i))
 
-mul-sum-3 : tie.Need-mul-sum-3 Inv-loop μ-loop
-mul-sum-3 c = omega arith
-
-mul-sum-4 : tie.Need-mul-sum-4 Inv-loop μ-loop
-mul-sum-4 c = omega arith
-
-index-1-sum : tie.Need-index-1-sum Inv-loop μ-loop
-index-1-sum c = omega arith
-
-index-2-sum : tie.Need-index-2-sum Inv-loop μ-loop
-index-2-sum c = omega arith
-
 mul-sum-5 : tie.Need-mul-sum-5 Inv-loop μ-loop
 mul-sum-5 c = product-fits (c .before .before .before .loop .inv)
 
 add-sum : tie.Need-add-sum Inv-loop μ-loop
 add-sum c = next-fits (c .before .before .before .loop .inv)
-
-add-i : tie.Need-add-i Inv-loop μ-loop
-add-i c = omega arith
-
-loop-less : tie.Need-loop-less Inv-loop μ-loop
-loop-less c = omega arith
 
 loop-again : tie.Need-loop-again Inv-loop μ-loop
 unfolding sumTo
@@ -131,17 +107,17 @@ column-sum-spec =
     Inv-loop
     μ-loop
     loop-holds
-    mul-sum
-    array-read-sum
+    (λ c. omega arith)
+    (λ c. omega arith)
     mul-sum-2
     array-copy-out-sum
-    mul-sum-3
-    mul-sum-4
-    index-1-sum
-    index-2-sum
+    (λ c. omega arith)
+    (λ c. omega arith)
+    (λ c. omega arith)
+    (λ c. omega arith)
     mul-sum-5
     add-sum
-    add-i
-    loop-less
+    (λ c. omega arith)
+    (λ c. omega arith)
     loop-again
     returns)

@@ -5,9 +5,6 @@ use Rattle.rules.specs.JobFile.{isDown}
 use Rattle.forces.proofs.sums.sort_by_way.Statement.{statement}
 use Rattle.forces.proofs.sums.sort_by_way.Tie as tie
 
-array-read-if1 : tie.Need-array-read-if1
-array-read-if1 c = search needs
-
 returns : tie.Need-returns
 unfolding isDown
 returns c = simp (eq-eqb _ _ (c .if1 .taken))
@@ -17,4 +14,4 @@ unfolding isDown
 returns-2 c = simp (ne-eqb _ _ (c .if1 .left))
 
 pub sort-by-way-spec : {M : Type 1} → statement M
-sort-by-way-spec = tie.close (tie.spec array-read-if1 returns returns-2)
+sort-by-way-spec = tie.close (tie.spec (λ c. search needs) returns returns-2)

@@ -4,8 +4,8 @@ use mathlib.Core.List.{[], map}
 use Prim.Native.Nat.{_-_}
 use native.Mathlib.Omega.{arith}
 use Rattle.rules.specs.JobFile.{mostLoadsOnWall}
-use Rattle.components.specs.Tables.{components, ownRows}
-use Rattle.components.proofs.Runs.{TwoRuns, none-made, next-made, all-stored}
+use Rattle.forces.specs.Tables.{components, ownRows}
+use Rattle.forces.proofs.Runs.{TwoRuns, none-made, next-made, all-stored}
 use Rattle.forces.specs.Sorts.{firstSorts, byWay, sortsOf}
 use Rattle.forces.proofs.sums.sorts_of.Statement.{statement}
 use Rattle.forces.proofs.sums.sorts_of.Tie as tie
@@ -18,42 +18,6 @@ abbrev μ-loop : tie.MeasureT-loop
 
 loop-holds : tie.Need-loop-holds Inv-loop μ-loop
 loop-holds c = none-made (byWay 0 2) (byWay 1 3) (c .args .t1) (c .good .0 .1 .0 .1) (omega arith) refl
-
-mul-load : tie.Need-mul-load Inv-loop μ-loop
-mul-load c = omega arith
-
-array-copy-out-load : tie.Need-array-copy-out-load Inv-loop μ-loop
-array-copy-out-load c = omega arith
-
-sort-by-way-requires : tie.Need-sort-by-way-requires Inv-loop μ-loop
-sort-by-way-requires c κs = tt
-
-add-sorts : tie.Need-add-sorts Inv-loop μ-loop
-add-sorts c = omega arith
-
-mul-sorts : tie.Need-mul-sorts Inv-loop μ-loop
-mul-sorts c = omega arith
-
-array-write-sorts : tie.Need-array-write-sorts Inv-loop μ-loop
-array-write-sorts c = omega arith
-
-sort-by-way-requires-2 : tie.Need-sort-by-way-requires-2 Inv-loop μ-loop
-sort-by-way-requires-2 c κs = tt
-
-add-sorts-2 : tie.Need-add-sorts-2 Inv-loop μ-loop
-add-sorts-2 c = omega arith
-
-mul-sorts-2 : tie.Need-mul-sorts-2 Inv-loop μ-loop
-mul-sorts-2 c = omega arith
-
-array-write-sorts-2 : tie.Need-array-write-sorts-2 Inv-loop μ-loop
-array-write-sorts-2 c = omega arith
-
-add-i : tie.Need-add-i Inv-loop μ-loop
-add-i c = omega arith
-
-loop-less : tie.Need-loop-less Inv-loop μ-loop
-loop-less c = omega arith
 
 loop-again : tie.Need-loop-again Inv-loop μ-loop
 loop-again c =
@@ -72,17 +36,17 @@ sorts-of-spec =
     Inv-loop
     μ-loop
     loop-holds
-    mul-load
-    array-copy-out-load
-    sort-by-way-requires
-    add-sorts
-    mul-sorts
-    array-write-sorts
-    sort-by-way-requires-2
-    add-sorts-2
-    mul-sorts-2
-    array-write-sorts-2
-    add-i
-    loop-less
+    (λ c. omega arith)
+    (λ c. omega arith)
+    (λ c κs. tt)
+    (λ c. omega arith)
+    (λ c. omega arith)
+    (λ c. omega arith)
+    (λ c κs. tt)
+    (λ c. omega arith)
+    (λ c. omega arith)
+    (λ c. omega arith)
+    (λ c. omega arith)
+    (λ c. omega arith)
     loop-again
     returns)

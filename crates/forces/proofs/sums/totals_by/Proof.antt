@@ -9,40 +9,25 @@ use Rattle.forces.proofs.Summed.{read-back}
 use Rattle.forces.proofs.sums.totals_by.Statement.{statement}
 use Rattle.forces.proofs.sums.totals_by.Tie as tie
 
-array-copy-out-column-sum : tie.Need-array-copy-out-column-sum
-array-copy-out-column-sum c = search needs
-
 column-sum-requires : tie.Need-column-sum-requires
 column-sum-requires c κs = let pre = c .before .pre in (omega arith, pre .0, pre .1 .each _)
-
-array-copy-out-column-sum-2 : tie.Need-array-copy-out-column-sum-2
-array-copy-out-column-sum-2 c = search needs
 
 column-sum-requires-2 : tie.Need-column-sum-requires-2
 column-sum-requires-2 c κs = let pre = c .before .before .before .pre in (omega arith, pre .0, pre .1 .each _)
 
-array-copy-out-column-sum-3 : tie.Need-array-copy-out-column-sum-3
-array-copy-out-column-sum-3 c = search needs
-
 column-sum-requires-3 : tie.Need-column-sum-requires-3
 column-sum-requires-3 c κs = let pre = c .before .before .before .before .before .pre in (omega arith, pre .0, pre .1 .each _)
 
-array-copy-out-column-sum-4 : tie.Need-array-copy-out-column-sum-4
-array-copy-out-column-sum-4 c = search needs
-
 column-sum-requires-4 : tie.Need-column-sum-requires-4
 column-sum-requires-4 c κs = let pre = c .before .before .before .before .before .before .before .pre in (omega arith, pre .0, pre .1 .each _)
-
-array-copy-out-column-sum-5 : tie.Need-array-copy-out-column-sum-5
-array-copy-out-column-sum-5 c = search needs
 
 column-sum-requires-5 : tie.Need-column-sum-requires-5
 column-sum-requires-5 c κs = let pre = c .before .before .before .before .before .before .before .before .before .pre in (omega arith, pre .0, pre .1 .each _)
 
 -- five totals are those that each of them is
 five : {a b c d e v w x y z : ℤ} → a ≡ v → b ≡ w → c ≡ x → d ≡ y → e ≡ z
-    → _≡_ {A = Totals} (record { vertical = a; horizontal = b; restoring = c; overturning = d; moment = e })
-    (record { vertical = v; horizontal = w; restoring = x; overturning = y; moment = z })
+    → _≡_ {A = Totals} (record { R = a; H = b; Mrest = c; Mot = d; M6 = e })
+    (record { R = v; H = w; Mrest = x; Mot = y; M6 = z })
 five p q r s t = rw (p, q, r, s, t)
 
 returns : tie.Need-returns
@@ -63,14 +48,14 @@ pub totals-by-spec : {M : Type 1} → statement M
 totals-by-spec =
     tie.close
     (tie.spec
-    array-copy-out-column-sum
+    (λ c. search needs)
     column-sum-requires
-    array-copy-out-column-sum-2
+    (λ c. search needs)
     column-sum-requires-2
-    array-copy-out-column-sum-3
+    (λ c. search needs)
     column-sum-requires-3
-    array-copy-out-column-sum-4
+    (λ c. search needs)
     column-sum-requires-4
-    array-copy-out-column-sum-5
+    (λ c. search needs)
     column-sum-requires-5
     returns)

@@ -5,21 +5,6 @@ use Rattle.rules.specs.ToeAndStem.{bears, greatest, leverArm, neededArea, besid
 use Rattle.section.proofs.points.figures.Statement.{statement}
 use Rattle.section.proofs.points.figures.Tie as tie
 
-lever-arm-requires : tie.Need-lever-arm-requires
-lever-arm-requires c κs = search needs
-
-needed-area-requires : tie.Need-needed-area-requires
-needed-area-requires c κs = search needs
-
-provided-area-requires : tie.Need-provided-area-requires
-provided-area-requires c κs = search needs
-
-provided-area-requires-2 : tie.Need-provided-area-requires-2
-provided-area-requires-2 c κs = search needs
-
-lever-arm-requires-2 : tie.Need-lever-arm-requires-2
-lever-arm-requires-2 c κs = search needs
-
 returns : tie.Need-returns
 unfolding roundedUp roundedDown bears greatest leverArm neededArea besides barArea providedArea
 returns c =
@@ -34,11 +19,4 @@ returns c =
 
 pub figures-spec : {M : Type 1} → statement M
 figures-spec =
-    tie.close
-    (tie.spec
-    lever-arm-requires
-    needed-area-requires
-    provided-area-requires
-    provided-area-requires-2
-    lever-arm-requires-2
-    returns)
+    tie.close (tie.spec (λ c κs. search needs) (λ c κs. search needs) (λ c κs. search needs) (λ c κs. search needs) (λ c κs. search needs) returns)

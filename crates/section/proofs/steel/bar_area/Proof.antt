@@ -32,31 +32,13 @@ loop-holds : tie.Need-loop-holds Inv-loop μ-loop
 unfolding barArea
 loop-holds c = (omega arith, refl)
 
-mul-if1 : tie.Need-mul-if1 Inv-loop μ-loop
-mul-if1 c = omega arith
-
-array-read-if1 : tie.Need-array-read-if1 Inv-loop μ-loop
-array-read-if1 c = omega arith
-
 cast-if1 : tie.Need-cast-if1 Inv-loop μ-loop
 cast-if1 c = all-at (Fits w64) 0 (omega arith) bars (omega arith) (c .before .loop .i)
-
-mul-result : tie.Need-mul-result Inv-loop μ-loop
-mul-result c = omega arith
-
-array-read-result : tie.Need-array-read-result Inv-loop μ-loop
-array-read-result c = omega arith
 
 returns : tie.Need-returns Inv-loop μ-loop
 returns c =
     let d = c .before .before in
     sym (d .loop .inv .1 ∙ next _ _ (c .before .loop-test .taken) ∙ rw (eq-eqb _ _ (c .if1 .taken)))
-
-add-i : tie.Need-add-i Inv-loop μ-loop
-add-i c = omega arith
-
-loop-less : tie.Need-loop-less Inv-loop μ-loop
-loop-less c = omega arith
 
 loop-again : tie.Need-loop-again Inv-loop μ-loop
 loop-again c =
@@ -70,17 +52,5 @@ returns-2 c = let e : c .before .loop .i ≡ length bars = omega arith in sym (c
 pub bar-area-spec : {M : Type 1} → statement M
 bar-area-spec =
     tie.close
-    (tie.spec
-    Inv-loop
-    μ-loop
-    loop-holds
-    mul-if1
-    array-read-if1
-    cast-if1
-    mul-result
-    array-read-result
-    returns
-    add-i
-    loop-less
-    loop-again
-    returns-2)
+    (tie.spec Inv-loop μ-loop loop-holds (λ c. omega arith) (λ c. omega arith) cast-if1 (λ c. omega arith) (λ c. omega arith) returns (λ c. omega arith)
+    (λ c. omega arith) loop-again returns-2)

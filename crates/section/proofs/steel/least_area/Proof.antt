@@ -6,18 +6,6 @@ use Rattle.rules.specs.ToeAndStem.{leastArea}
 use Rattle.section.proofs.steel.least_area.Statement.{statement}
 use Rattle.section.proofs.steel.least_area.Tie as tie
 
-mul-asked : tie.Need-mul-asked
-mul-asked c = search needs
-
-mul-asked-2 : tie.Need-mul-asked-2
-mul-asked-2 c = three-fit (omega arith)
-
-asked-requires : tie.Need-asked-requires
-asked-requires c κs = search needs
-
-returns : tie.Need-returns
-unfolding leastArea
-returns c = c .asked .ensures
-
 pub least-area-spec : {M : Type 1} → statement M
-least-area-spec = tie.close (tie.spec mul-asked mul-asked-2 asked-requires returns)
+unfolding leastArea
+least-area-spec = tie.close (tie.spec (λ c. search needs) (λ c. three-fit (omega arith)) (λ c κs. search needs) (λ c. search needs))

@@ -21,26 +21,14 @@ too-long : (m fcu d z : ℕ) → 19 * d / 20 < z → bears m fcu d z ≡ false
 unfolding bears
 too-long m fcu d z h = rw (lt-leb (20 * z) (19 * d) (omega arith))
 
-mul-z : tie.Need-mul-z Inv-loop μ-loop
-mul-z c = search needs
-
 loop-holds : tie.Need-loop-holds Inv-loop μ-loop
 unfolding leverArm
 loop-holds c = (omega arith, greatest-from _ _ _ (omega arith) (too-long _ _ _))
-
-lever-bears-requires : tie.Need-lever-bears-requires Inv-loop μ-loop
-lever-bears-requires c κs = search needs
 
 returns : tie.Need-returns Inv-loop μ-loop
 returns c =
     let d = c .before .before .before in
     (sym (d .loop .inv .1 ∙ greatest-here _ _ (omega arith) (sym (c .before .lever-bears .ensures) ∙ c .if1 .taken)), d .loop .inv .0)
-
-sub-z : tie.Need-sub-z Inv-loop μ-loop
-sub-z c = omega arith
-
-loop-less : tie.Need-loop-less Inv-loop μ-loop
-loop-less c = omega arith
 
 loop-again : tie.Need-loop-again Inv-loop μ-loop
 loop-again c =
@@ -54,14 +42,5 @@ returns-2 c = let e : c .before .loop .z ≡ 0 = omega arith in (sym (c .before 
 pub lever-arm-spec : {M : Type 1} → statement M
 lever-arm-spec =
     tie.close
-    (tie.spec
-    Inv-loop
-    μ-loop
-    mul-z
-    loop-holds
-    lever-bears-requires
-    returns
-    sub-z
-    loop-less
-    loop-again
+    (tie.spec Inv-loop μ-loop (λ c. search needs) loop-holds (λ c κs. search needs) returns (λ c. omega arith) (λ c. omega arith) loop-again
     returns-2)

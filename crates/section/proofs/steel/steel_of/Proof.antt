@@ -13,30 +13,12 @@ tested : (c : tie.After-needs-compression)
     needsCompression (start .m) (start .section .concrete) (twiceDepth (start .section)) ≡ c .needs-compression .result
 tested c = rw (← (c .before .twice-depth .ensures .0)) (sym (c .needs-compression .ensures))
 
-twice-depth-requires : tie.Need-twice-depth-requires
-twice-depth-requires c κs = search needs
-
-needs-compression-requires : tie.Need-needs-compression-requires
-needs-compression-requires c κs = search needs
-
 returns : tie.Need-returns
 unfolding requiredArea steelFails
 returns c = rw (tested (c .before) ∙ c .if1 .taken)
 
-lever-arm-requires : tie.Need-lever-arm-requires
-lever-arm-requires c κs = search needs
-
 needed-area-requires : tie.Need-needed-area-requires
 needed-area-requires c κs = (moment-most _ _ _ (omega arith) (tested (c .before .before) ∙ c .before .if1 .left), omega arith, omega arith)
-
-least-area-requires : tie.Need-least-area-requires
-least-area-requires c κs = search needs
-
-greater-requires : tie.Need-greater-requires
-greater-requires c κs = search needs
-
-provided-area-requires : tie.Need-provided-area-requires
-provided-area-requires c κs = search needs
 
 returns-2 : tie.Need-returns-2
 unfolding requiredArea steelFails
@@ -56,13 +38,5 @@ returns-2 c =
 pub steel-of-spec : {M : Type 1} → statement M
 steel-of-spec =
     tie.close
-    (tie.spec
-    twice-depth-requires
-    needs-compression-requires
-    returns
-    lever-arm-requires
-    needed-area-requires
-    least-area-requires
-    greater-requires
-    provided-area-requires
-    returns-2)
+    (tie.spec (λ c κs. search needs) (λ c κs. search needs) returns (λ c κs. search needs) needed-area-requires (λ c κs. search needs)
+    (λ c κs. search needs) (λ c κs. search needs) returns-2)

@@ -4,7 +4,7 @@ use native.Mathlib.Omega.{arith}
 use borrow.Author.Needs.{needs}
 use borrow.Author.Tests.{not-true, not-false}
 use Rattle.rules.proofs.Sections.{toe-workable}
-use Rattle.wall.proofs.Answers.{member-worked, no-toe, no-bearing, toe-worked}
+use Rattle.wall.proofs.Answers.{no-toe, no-bearing, toe-worked}
 use Rattle.wall.proofs.members.toe_over.Statement.{statement}
 use Rattle.wall.proofs.members.toe_over.Tie as tie
 
@@ -32,15 +32,15 @@ toe-section-requires c κs = search needs
 toe-action-requires : tie.Need-toe-action-requires
 toe-action-requires c κs = search needs
 
-member-requires : tie.Need-member-requires
-member-requires c κs = search needs
+member-of-requires : tie.Need-member-of-requires
+member-of-requires c κs =
+    let start = c .before .before .before .before .before .before in
+    rw (c .before .toe-section .ensures) (toe-workable _ (start .pre .0))
 
 returns-3 : tie.Need-returns-3
 returns-3 c =
     let judged = c .before .before .before in
-    let start = judged .before .before .before .before in
-    c .member .ensures
-    ∙ rw (c .before .before .toe-section .ensures, c .before .toe-action .ensures) (member-worked _ _ (toe-workable _ (start .pre .0)))
+    rw (c .before .before .toe-section .ensures, c .before .toe-action .ensures) at (c .member-of .ensures)
     ∙ sym (toe-worked _ _ (omega (arith, judged .before .before .before .field .ensures)) (sym (judged .before .is-given .ensures) ∙ not-false _ (judged .if2 .left)))
 
 pub toe-over-spec : {M : Type 1} → statement M
@@ -55,5 +55,5 @@ toe-over-spec =
     returns-2
     toe-section-requires
     toe-action-requires
-    member-requires
+    member-of-requires
     returns-3)

@@ -12,11 +12,11 @@ slab-requires c κs = search needs
 squared-arm-requires : tie.Need-squared-arm-requires
 squared-arm-requires c κs = search needs
 
-mul-relief : tie.Need-mul-relief
-mul-relief c = two-fit (omega arith)
+mul-rounded-down : tie.Need-mul-rounded-down
+mul-rounded-down c = two-fit (omega arith)
 
-relief-requires : tie.Need-relief-requires
-relief-requires c κs = search needs
+rounded-down-requires : tie.Need-rounded-down-requires
+rounded-down-requires c κs = search needs
 
 returns : tie.Need-returns
 unfolding momentOfWeight
@@ -24,4 +24,4 @@ returns c = cc
 
 pub moment-of-weight-spec : {M : Type 1} → statement M
 moment-of-weight-spec =
-    tie.close (tie.spec slab-requires squared-arm-requires mul-relief relief-requires returns)
+    tie.close (tie.spec slab-requires squared-arm-requires mul-rounded-down rounded-down-requires returns)

@@ -13,11 +13,11 @@ slab-requires c κs = search needs
 field-requires : tie.Need-field-requires
 field-requires c κs = search needs
 
-mul-relief : tie.Need-mul-relief
-mul-relief c = two-fit (omega (arith, wall-within _ (c .before .before .pre)))
+mul-rounded-down : tie.Need-mul-rounded-down
+mul-rounded-down c = two-fit (omega (arith, wall-within _ (c .before .before .pre)))
 
-relief-requires : tie.Need-relief-requires
-relief-requires c κs = search needs
+rounded-down-requires : tie.Need-rounded-down-requires
+rounded-down-requires c κs = search needs
 
 returns : tie.Need-returns
 unfolding shearOfWeight
@@ -25,4 +25,4 @@ returns c = cc
 
 pub shear-of-weight-spec : {M : Type 1} → statement M
 shear-of-weight-spec =
-    tie.close (tie.spec slab-requires field-requires mul-relief relief-requires returns)
+    tie.close (tie.spec slab-requires field-requires mul-rounded-down rounded-down-requires returns)

@@ -3,7 +3,7 @@ use Prim.Native.Nat.{_*_, _≤_}
 use native.Mathlib.Nat.{mul-le-mul}
 use native.Mathlib.Omega.{arith}
 use borrow.Author.Needs.{needs}
-use Rattle.rules.proofs.Accepted.{wall-within}
+use Rattle.rules.proofs.Accepted.{most, wall-within}
 use Rattle.wall.proofs.toe.slab.Statement.{statement}
 use Rattle.wall.proofs.toe.slab.Tie as tie
 
@@ -16,11 +16,11 @@ mul-result c = search needs
 field-requires-2 : tie.Need-field-requires-2
 field-requires-2 c κs = search needs
 
-slab-most : (c : tie.After-field2) → 14 * c .before .field .result * c .field2 .result ≤ 14 * 3000 * 1500
+slab-most : (c : tie.After-field2) → 14 * c .before .field .result * c .field2 .result ≤ 14 * most 11 * most 6
 slab-most c =
     let within = wall-within _ (c .before .before .pre) in
-    let density : c .before .field .result ≤ 3000 = omega arith in
-    let thickness : c .field2 .result ≤ 1500 = omega arith in
+    let density : c .before .field .result ≤ most 11 = omega arith in
+    let thickness : c .field2 .result ≤ most 6 = omega arith in
     omega (arith, mul-le-mul density thickness)
 
 mul-result-2 : tie.Need-mul-result-2

@@ -28,7 +28,7 @@ on-base : (c : tie.After-twice-arm) {twice : ℕ} → twice ≤ 2 * baseLength (
     → let pressed = c .before .before .before .args .pressed in
     (pressed ≡ pressedBy factoredScale (pressed .block)) × Pressable (c .before .before .base-length .result) (pressed .block)
     × (twice ≤ 2 * c .before .before .base-length .result)
-on-base c h = let pre = c .before .before .before .pre in rw (c .before .before .base-length .ensures) (pre .1, pre .2, h)
+on-base c h = let pre = c .before .before .before .pre in rw (c .before .before .base-length .ensures) (pre .1 .reports, pre .1 .pressable, h)
 
 pressure-at-requires : tie.Need-pressure-at-requires
 pressure-at-requires c κs = on-base c (omega arith)
@@ -42,29 +42,29 @@ pressure-at-requires-2 c κs = on-base (c .before) (omega (arith, arm-most (wall
 pressure-at-requires-3 : tie.Need-pressure-at-requires-3
 pressure-at-requires-3 c κs = on-base (c .before .before) (omega (arith, arm-most (wall-within _ (c .before .before .before .before .before .pre .0))))
 
-add-bearing : tie.Need-add-bearing
-add-bearing c = search needs
+add-rounded-up : tie.Need-add-rounded-up
+add-rounded-up c = search needs
 
-mul-bearing : tie.Need-mul-bearing
-mul-bearing c = two-fit (omega (arith, wall-within _ (c .before .before .before .before .before .before .pre .0)))
+mul-rounded-up : tie.Need-mul-rounded-up
+mul-rounded-up c = two-fit (omega (arith, wall-within _ (c .before .before .before .before .before .before .pre .0)))
 
-bearing-requires : tie.Need-bearing-requires
-bearing-requires c κs = search needs
+rounded-up-requires : tie.Need-rounded-up-requires
+rounded-up-requires c κs = search needs
 
-mul-bearing-2 : tie.Need-mul-bearing-2
-mul-bearing-2 c = search needs
+mul-rounded-up-2 : tie.Need-mul-rounded-up-2
+mul-rounded-up-2 c = search needs
 
-add-bearing-2 : tie.Need-add-bearing-2
-add-bearing-2 c = search needs
+add-rounded-up-2 : tie.Need-add-rounded-up-2
+add-rounded-up-2 c = search needs
 
 squared-arm-requires : tie.Need-squared-arm-requires
 squared-arm-requires c κs = search needs
 
-mul-bearing-3 : tie.Need-mul-bearing-3
-mul-bearing-3 c = two-fit (omega arith)
+mul-rounded-up-3 : tie.Need-mul-rounded-up-3
+mul-rounded-up-3 c = two-fit (omega arith)
 
-bearing-requires-2 : tie.Need-bearing-requires-2
-bearing-requires-2 c κs = search needs
+rounded-up-requires-2 : tie.Need-rounded-up-requires-2
+rounded-up-requires-2 c κs = search needs
 
 shear-of-weight-requires : tie.Need-shear-of-weight-requires
 shear-of-weight-requires c κs = search needs
@@ -93,14 +93,14 @@ toe-action-spec =
     mul-pressure-at
     pressure-at-requires-2
     pressure-at-requires-3
-    add-bearing
-    mul-bearing
-    bearing-requires
-    mul-bearing-2
-    add-bearing-2
+    add-rounded-up
+    mul-rounded-up
+    rounded-up-requires
+    mul-rounded-up-2
+    add-rounded-up-2
     squared-arm-requires
-    mul-bearing-3
-    bearing-requires-2
+    mul-rounded-up-3
+    rounded-up-requires-2
     shear-of-weight-requires
     excess-requires
     moment-of-weight-requires

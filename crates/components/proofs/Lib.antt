@@ -1,5 +1,0 @@
-pub mod Cells
-pub mod InPlace
-pub mod OnStem
-pub mod Once
-pub mod Runs

@@ -1,2 +1,0 @@
-pub mod OwnLoads
-pub mod Read

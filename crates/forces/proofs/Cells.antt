@@ -1,0 +1,49 @@
+-- Every cell of the tables is small, of a wall that fits with its loads.
+use mathlib.Core.Path.{_≡_, refl}
+use mathlib.Core.List.{List, [], map}
+use Prim.Native.Nat.{ℕ, _≤_}
+use native.Mathlib.Omega.{arith}
+use lib.IntN.{ℤ, pos, natAbs}
+use lib.ListN.{getD, List·getD-map}
+use Rattle.whole.proofs.Lists.{all-joined}
+use Rattle.rules.specs.JobFile.{Wall, Load, stemHeight, baseThickness, restCoefficient, baseLength, greatestLoad}
+use Rattle.rules.specs.Forces.{table, saturatedHeight, Sort, Component, pushRows, loadTable}
+use Rattle.rules.proofs.Moments.{balances}
+use Rattle.rules.proofs.Accepted.{most, WallWithin, wall-within, base-length}
+use Rattle.rules.proofs.Examined.{Fit}
+use Rattle.rules.proofs.Sizes.{Sound, weight, pushes-sound, stem-face, none, loads-sound, row-at, cell-at, cells-small}
+use Rattle.forces.specs.Faces.{rowsOf}
+use Rattle.forces.specs.Tables.{onStem, nothing, stemInPlace}
+use Rattle.forces.proofs.OnStem.{stem-fit}
+
+-- small enough for every sum to fit
+abbrev pub SmallCells : List (List ℤ) → Type 0
+SmallCells rows = (i j : ℕ) → natAbs (getD (getD rows i []) j (pos 0)) ≤ 100000000000
+
+-- of a wall that fits with its loads
+module _ (wall : Wall) (loads : List Load) (f : Fit wall loads) where
+  within : WallWithin wall
+  within = wall-within wall (f .wall-fits)
+
+  -- a row of zeros is sound, as a weight of 0 at the toe
+  idle : {sort : Sort} → balances sort ≡ pos 1 → Sound (baseLength wall) greatestLoad (nothing sort)
+  idle e = weight {force = 0} {sixfold = 0} e (omega (arith, base-length within))
+
+  stem-sound : (i : ℕ) → Sound (baseLength wall) greatestLoad (getD (stemInPlace wall loads) i none)
+  unfolding stemInPlace
+  stem-sound =
+      let pushes = pushRows wall (restCoefficient wall) (stemHeight wall) (saturatedHeight wall) in
+      let on = map (onStem (baseThickness wall)) loads in
+      let face = stem-face within in
+      let under = loads-sound greatestLoad within (omega arith) on (stem-fit wall (baseThickness wall) loads f .loads-fit) in
+      let behind = pushes-sound _ _ within (restCoefficient wall) _ _ (within .rest .1) (face .0) (face .1) in
+      row-at (baseLength wall) greatestLoad (stemInPlace wall loads)
+      (idle refl, (idle refl, (idle refl, (idle refl, (idle refl, all-joined (Sound (baseLength wall) greatestLoad) pushes (loadTable on) behind under)))))
+
+-- every cell of a wall's table is small, and of its stem's
+pub wall-cells : (wall : Wall) (loads : List Load) → Fit wall loads → (K : ℕ) → K ≤ most 16 → SmallCells (rowsOf (table K wall loads))
+wall-cells wall loads f K k = cells-small wall loads f K k
+
+pub stem-cells : (wall : Wall) (loads : List Load) → Fit wall loads → SmallCells (rowsOf (stemInPlace wall loads))
+stem-cells wall loads f i j =
+    rw (List·getD-map (λ (c : Component). c .row) (stemInPlace wall loads) i none) (cell-at (stemInPlace wall loads) (stem-sound wall loads f) i j .1)

@@ -1,0 +1,21 @@
+-- `forces::pushes::water_push` meets its contract. A height that is at most 9500 is squared.
+use native.Mathlib.Nat.{mul-le-mul}
+use native.Mathlib.Omega.{arith}
+use borrow.Author.Needs.{needs}
+use Rattle.rules.specs.Forces.{waterPush}
+use Rattle.whole.proofs.Factors.{two-fit}
+use Rattle.forces.proofs.pushes.water_push.Statement.{statement}
+use Rattle.forces.proofs.pushes.water_push.Tie as tie
+
+mul-push-of : tie.Need-mul-push-of
+mul-push-of c = two-fit (omega arith)
+
+mul-push-of-2 : tie.Need-mul-push-of-2
+mul-push-of-2 c = two-fit (omega (arith, mul-le-mul (c .pre) (c .pre)))
+
+returns : tie.Need-returns
+unfolding waterPush
+returns c = c .push-of .ensures
+
+pub water-push-spec : {M : Type 1} → statement M
+water-push-spec = tie.close (tie.spec mul-push-of mul-push-of-2 (λ c κs. search needs) returns)

@@ -1,0 +1,91 @@
+// Document 01, "Forces": a component's row of the table, its vertical and its horizontal force in N and its moment in sixths of a N mm.
+use crate::pushes;
+use crate::weights;
+use record::HEEL_LENGTH;
+use record::STEM_THICKNESS;
+use record::TOE_LENGTH;
+use record::Wall;
+ghost use mathlib.Core.Path.{_≡_};
+ghost use mathlib.Core.List.{[], _∷_};
+ghost use Prim.Native.Nat.{_≤_, _*_};
+ghost use lib.Dec.{T};
+ghost use lib.IntN.{pos};
+ghost use Rattle.rules.specs.JobFile.{wallFits};
+ghost use Rattle.rules.specs.Forces.{weightRows, pushRows};
+ghost use Rattle.forces.specs.Faces.{Face, rowsOf};
+
+pub type Row = [i64; 3];
+
+pub const WEIGHTS: usize = 5;
+
+pub type WeightRows = [Row; WEIGHTS];
+
+// The stem's table has pushes and loads alone.
+pub const NO_WEIGHTS: WeightRows = [[0; 3]; WEIGHTS];
+
+pub const PUSHES: usize = 5;
+
+pub type PushRows = [Row; PUSHES];
+
+// A number as an i64, well within its range.
+fn signed(n: u64) -> i64
+    requires { ⌜ n ≤ 300000000000 ⌝ }
+    ensures { λ r. ⌜ r ≡ pos n ⌝ }
+{
+    n as i64
+}
+
+// A force times six times its distance or its height.
+fn moment(force: u64, sixfold: u64) -> i64
+    requires { ⌜ (force ≤ 3000000) × (sixfold ≤ 100000) ⌝ }
+    ensures { λ r. ⌜ r ≡ pos (force * sixfold) ⌝ }
+{
+    signed(force * sixfold)
+}
+
+// A force down, with six times its distance from the toe.
+pub fn down(force: u64, sixfold: u64) -> Row
+    requires { ⌜ (force ≤ 3000000) × (sixfold ≤ 100000) ⌝ }
+    ensures { λ r. ⌜ r ≡ pos force ∷ pos 0 ∷ pos (force * sixfold) ∷ [] ⌝ }
+{
+    [signed(force), 0, moment(force, sixfold)]
+}
+
+// A horizontal force, with six times its height.
+pub fn across(force: u64, sixfold: u64) -> Row
+    requires { ⌜ (force ≤ 3000000) × (sixfold ≤ 100000) ⌝ }
+    ensures { λ r. ⌜ r ≡ pos 0 ∷ pos force ∷ pos (force * sixfold) ∷ [] ⌝ }
+{
+    [0, signed(force), moment(force, sixfold)]
+}
+
+// Stem, base, saturated fill, moist fill and surcharge; the last three stand over the heel.
+pub fn weight_rows(wall: Wall) -> WeightRows
+    requires { ⌜ T (wallFits wall) ⌝ }
+    ensures { λ r. ⌜ r ≡ rowsOf (weightRows wall) ⌝ }
+{
+    let length = record::base_length(wall);
+    let heel = 6 * length - 3 * record::field(wall, HEEL_LENGTH);
+    let stem = 6 * record::field(wall, TOE_LENGTH) + 3 * record::field(wall, STEM_THICKNESS);
+    [
+        down(weights::stem_weight(wall), stem),
+        down(weights::base_weight(wall), 3 * length),
+        down(weights::saturated_weight(wall), heel),
+        down(weights::moist_weight(wall), heel),
+        down(weights::surcharge_weight(wall), heel),
+    ]
+}
+
+// Surcharge, moist fill above water and below, saturated fill, and water.
+pub fn push_rows(wall: Wall, k: u64, h: u64, hw: u64) -> PushRows
+    requires { ⌜ T (wallFits wall) × Face k h hw ⌝ }
+    ensures { λ r. ⌜ r ≡ rowsOf (pushRows wall k h hw) ⌝ }
+{
+    [
+        across(pushes::surcharge_push(wall, k, h), 3 * h),
+        across(pushes::moist_push(wall, k, h, hw), 2 * (h + 2 * hw)),
+        across(pushes::moist_push_below(wall, k, h, hw), 3 * hw),
+        across(pushes::saturated_push(wall, k, hw), 2 * hw),
+        across(pushes::water_push(hw), 2 * hw),
+    ]
+}

@@ -1,0 +1,123 @@
+-- Walls and loads are judged one after the other, in file order: what is answered is what the first that is refused is answered.
+use mathlib.Core.Path.{_≡_, refl, sym, _∙_}
+use mathlib.Core.Bool.{Bool, true, false, not, cond}
+use mathlib.Core.List.{[]}
+use Prim.Native.Nat.{ℕ, zero, suc, _+_, _-_, _≤_, _<_}
+use native.Mathlib.Omega.{arith}
+use native.Mathlib.Numerals.{add-one}
+use borrow.Author.Tests.{not-true, not-false}
+use lib.Dec.{T, ltb, eqb}
+use lib.ListN.{length}
+use Rattle.rules.specs.declared.Answer.{Answer}
+use Rattle.rules.specs.declared.Answer.the-variants.{Worked, TooShort, WrongEdition, CountOutOfRange, WrongOffsetOrLength}
+use Rattle.rules.specs.JobFile.{File, headerBytes, edition, wallCount, mostWalls, loadCount, wallAt, entryAt, recordsFrom, walls, entries, wallOf, loadsOn}
+use Rattle.rules.specs.Answered.{isWorked, refusedIf, _orElse_, countsFit, offsetsAndLengthFit, wallAnswer, firstBadWall, entryFits, isOneMore, firstBadLoad, firstRefusal}
+use Rattle.rules.proofs.AcceptedFile.{walls-counted}
+use Rattle.job.specs.Refusals.{headerAnswer, loadAnswer}
+use Rattle.job.proofs.Passed.{passedLoads, one-more}
+
+-- where the first of two answers is a refusal, that is answered, and otherwise the rest
+module _ {all first a : Answer} {worked : Bool} (rest : Answer) (is : all ≡ (first orElse rest)) (its : a ≡ first) (told : worked ≡ isWorked a) where
+  pub stops : not worked ≡ true → a ≡ all
+  stops e = sym (is ∙ rw (← its, ← told, not-true worked e))
+
+  pub goes-on : not worked ≡ false → all ≡ rest
+  goes-on e = is ∙ rw (← its, ← told, not-false worked e)
+
+-- an answer that is passed is no refusal
+pub no-refusal : {first a : Answer} {worked : Bool} → a ≡ first → worked ≡ isWorked a → not worked ≡ false → T (isWorked first)
+no-refusal {worked = worked} its told e = rw (← its, ← told, not-false worked e) tt
+
+-- of three it doesn't matter which two are taken first
+grouped : (a b c : Answer) → ((a orElse b) orElse c) ≡ (a orElse (b orElse c))
+grouped a b c = go (isWorked a) refl
+  where
+    go : (worked : Bool) → isWorked a ≡ worked → (cond worked b a orElse c) ≡ cond worked (b orElse c) a
+    go true e = refl
+    go false e = rw e
+
+-- ---- the header, and then walls and loads
+
+pub in-order : (file : File)
+    → firstRefusal file ≡ (headerAnswer file orElse firstBadWall 1 (walls file) orElse firstBadLoad (walls file) [] 1 (entries file))
+unfolding firstRefusal
+in-order file = rw (grouped, grouped, grouped)
+
+-- a header that is passed has no more walls than it may
+counts-passed : (short other fit wrong : Bool)
+    → T (isWorked (refusedIf short TooShort orElse refusedIf other WrongEdition orElse refusedIf (not fit) CountOutOfRange orElse refusedIf wrong WrongOffsetOrLength)) → T fit
+counts-passed true other fit wrong t = absurd t
+counts-passed false true fit wrong t = absurd t
+counts-passed false false true wrong t = tt
+counts-passed false false false wrong t = absurd t
+
+pub few-walls : (file : File) → T (isWorked (headerAnswer file)) → wallCount file ≤ mostWalls
+few-walls file t =
+    walls-counted file (counts-passed (ltb (length file) headerBytes) (not (eqb (edition file) 1)) (countsFit file) (not (offsetsAndLengthFit file)) t) .1
+
+-- ---- any records
+
+-- what is answered of n of them from an index on
+pub firstFrom : (ℕ → Answer) → ℕ → ℕ → Answer
+firstFrom answer i zero = Worked
+firstFrom answer i (suc n) = answer i orElse firstFrom answer (suc i) n
+
+-- those before an index were passed: what is answered of all is what is answered from there on
+pub record Passed (all : Answer) (answer : ℕ → Answer) (n i : ℕ) : Type 0 where
+  pub within : i ≤ n
+  pub left : all ≡ firstFrom answer i (n - i)
+
+none-passed : {all : Answer} {answer : ℕ → Answer} {n : ℕ} → all ≡ firstFrom answer 0 n → Passed all answer n 0
+none-passed {n = n} e = record { within = omega arith; left = let k : n - 0 ≡ n = omega arith in rw (k, e) }
+
+module _ {all : Answer} {answer : ℕ → Answer} {n i : ℕ} (passed : Passed all answer n i) where
+  -- all were passed
+  pub all-passed : n ≤ i → Worked ≡ all
+  unfolding firstFrom
+  all-passed h = let k : n - i ≡ 0 = omega arith in sym (passed .left ∙ rw k)
+
+  module _ {a : Answer} {worked : Bool} (h : i < n) (its : a ≡ answer i) (told : worked ≡ isWorked a) where
+    next : all ≡ (answer i orElse firstFrom answer (suc i) (n - suc i))
+    unfolding firstFrom
+    next = let k : n - i ≡ suc (n - suc i) = omega arith in passed .left ∙ rw k
+
+    -- the next one is refused
+    pub refused : not worked ≡ true → a ≡ all
+    refused = stops _ next its told
+
+    -- it is passed
+    pub one-passed : not worked ≡ false → Passed all answer n (i + 1)
+    one-passed e = record { within = omega arith; left = rw add-one (goes-on _ next its told e) }
+
+-- ---- walls
+
+-- what is answered of the wall at an index
+abbrev pub wallAnswerAt : File → ℕ → Answer
+wallAnswerAt file i = wallAnswer (i + 1) (wallAt file i)
+
+walls-from : (file : File) (i n : ℕ) → firstBadWall (i + 1) (recordsFrom (wallAt file) i n) ≡ firstFrom (wallAnswerAt file) i n
+unfolding firstFrom firstBadWall recordsFrom
+walls-from file i zero = refl
+walls-from file i (suc n) = let k : suc (i + 1) ≡ suc i + 1 = omega arith in rw (k, walls-from file (suc i) n)
+
+pub no-wall-passed : (file : File) → Passed (firstBadWall 1 (walls file)) (wallAnswerAt file) (wallCount file) 0
+unfolding walls
+no-wall-passed file = none-passed (walls-from file 0 (wallCount file))
+
+-- ---- loads
+
+-- what is answered of the load at an index
+abbrev pub loadAnswerAt : File → ℕ → Answer
+loadAnswerAt file i =
+    let e = entryAt file i in loadAnswer (entryFits (walls file) e) (length (loadsOn (wallOf e) (passedLoads file i))) (i + 1)
+
+loads-from : (file : File) (i n : ℕ)
+    → firstBadLoad (walls file) (passedLoads file i) (i + 1) (recordsFrom (entryAt file) i n) ≡ firstFrom (loadAnswerAt file) i n
+unfolding firstFrom firstBadLoad isOneMore recordsFrom
+loads-from file i zero = refl
+loads-from file i (suc n) =
+    let k : suc (i + 1) ≡ suc i + 1 = omega arith in rw (k, grouped, ← one-more file i, loads-from file (suc i) n)
+
+pub no-load-passed : (file : File) → Passed (firstBadLoad (walls file) [] 1 (entries file)) (loadAnswerAt file) (loadCount file) 0
+unfolding entries recordsFrom
+no-load-passed file = none-passed (loads-from file 0 (loadCount file))

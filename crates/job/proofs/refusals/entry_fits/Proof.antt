@@ -1,0 +1,50 @@
+-- `job::refusals::entry_fits` meets its contract. The walls are as many as the header says, and a load is judged by the lengths of its own.
+use mathlib.Core.Path.{_≡_, refl}
+use Prim.Native.Nat.{_-_, _<_}
+use native.Mathlib.Omega.{arith}
+use borrow.Author.Needs.{needs}
+use borrow.Author.Tests.{le-leb, lt-leb}
+use lib.ListN.{getD}
+use Rattle.rules.specs.JobFile.{Wall, Load, wallCount, wallAt, baseLength, wallHeight, reach, loadFits}
+use Rattle.rules.specs.Answered.{entryFits}
+use Rattle.rules.proofs.AcceptedFile.{walls-length, wall-at}
+use Rattle.job.specs.Lengths.{lengthsOf}
+use Rattle.job.proofs.refusals.entry_fits.Statement.{statement}
+use Rattle.job.proofs.refusals.entry_fits.Tie as tie
+
+-- a load fits a wall exactly where it fits the wall's lengths
+by-lengths : (wall : Wall) (load : Load) → loadFits (lengthsOf wall) load ≡ loadFits wall load
+unfolding lengthsOf baseLength wallHeight reach loadFits
+by-lengths wall load = refl
+
+returns : tie.Need-returns
+unfolding entryFits
+returns c = rw (lt-leb _ _ (c .if1 .taken))
+
+returns-2 : tie.Need-returns-2
+unfolding entryFits
+returns-2 c = rw (walls-length, ← c .before .wall-count .ensures, le-leb _ _ (c .before .before .if1 .left), lt-leb _ _ (c .if2 .taken))
+
+returns-3 : tie.Need-returns-3
+unfolding entryFits
+returns-3 c =
+    let d = c .before .before .before in
+    let start = d .before .before .before .before .args in
+    let number = getD (start .t2) 0 0 in
+    let there : number - 1 < wallCount (start .file .now) = omega arith in
+    rw (
+      walls-length,
+      ← d .before .wall-count .ensures,
+      le-leb _ _ (d .before .before .if1 .left),
+      le-leb _ _ (d .if2 .left),
+      wall-at (start .file .now) (number - 1) there,
+      ← by-lengths (wallAt (start .file .now) (number - 1)),
+      ← c .before .before .lengths-at .ensures,
+      ← c .before .load-of .ensures,
+    )
+    (c .load-fits .ensures)
+
+pub entry-fits-spec : {M : Type 1} → statement M
+entry-fits-spec =
+    tie.close
+    (tie.spec (λ c. search needs) returns (λ c κs. tt) (λ c. search needs) returns-2 (λ c κs. tt) (λ c κs. tt) (λ c κs. tt) returns-3)

@@ -1,0 +1,58 @@
+-- `job::refusals::first_bad_load` meets its contract. The invariant: the loads before the index were passed, and are counted wall by wall.
+use mathlib.Core.List.{[]}
+use Prim.Native.Nat.{_-_, _≤_, _<_}
+use native.Mathlib.Omega.{arith}
+use lib.ListN.{getD}
+use Rattle.rules.specs.JobFile.{mostWalls, mostLoadsOnWall, walls, entries}
+use Rattle.rules.specs.Answered.{firstBadLoad}
+use Rattle.job.proofs.Judging.{Passed, all-passed, refused, one-passed, loadAnswerAt, no-load-passed}
+use Rattle.job.proofs.Counting.{Counted, none-counted, Met, its-answer, has-room, one-counted}
+use Rattle.job.proofs.refusals.first_bad_load.Statement.{statement}
+use Rattle.job.proofs.refusals.first_bad_load.Tie as tie
+
+abbrev Inv-loop : tie.InvT-loop
+Inv-loop file loads counts₀ i₀ counts i = Passed (firstBadLoad (walls file) [] 1 (entries file)) (loadAnswerAt file) loads i × Counted file i counts
+
+abbrev μ-loop : tie.MeasureT-loop
+μ-loop file loads counts₀ i₀ counts i = loads - i
+
+loop-holds : tie.Need-loop-holds Inv-loop μ-loop
+loop-holds c = (rw (c .load-count .ensures) (no-load-passed _), none-counted _)
+
+met : (c : tie.After-load-answer Inv-loop μ-loop) → let counted = c .before .before in let loop = counted .before .before .before in
+    Met (loop .before .before .before .args .file .now) (loop .loop .i) (loop .loop .counts) (counted .before .entry-at .result) (counted .count-on .result) (c .load-answer .result)
+met c =
+    let counted = c .before .before in
+    let loop = counted .before .before .before in
+    record {
+      few = loop .before .before .before .pre;
+      counted = loop .loop .inv .1;
+      its = counted .before .entry-at .ensures;
+      count = counted .count-on .ensures;
+      answered = rw (← c .before .entry-fits .ensures) (c .load-answer .ensures);
+    }
+
+returns : tie.Need-returns Inv-loop μ-loop
+returns c =
+    let turn = c .before .before .before .before .before .before in
+    refused (turn .before .loop .inv .0) (turn .loop-test .taken) (its-answer (met (c .before .before))) (c .before .is-worked .ensures) (c .if1 .taken)
+
+-- a load that is passed has room on a wall that is counted
+room : (c : tie.Else1 Inv-loop μ-loop) → let counted = c .before .before .before .before in
+    (getD (counted .before .entry-at .result) 0 0 ≤ mostWalls) × (counted .count-on .result < mostLoadsOnWall)
+room c = has-room (met (c .before .before)) (c .before .is-worked .ensures) (c .if1 .left)
+
+loop-again : tie.Need-loop-again Inv-loop μ-loop
+loop-again c =
+    let turn = c .before .before .before .before .before .before in
+    let its = met (c .before .before) in
+    let told = c .before .is-worked .ensures in
+    (one-passed (turn .before .loop .inv .0) (turn .loop-test .taken) (its-answer its) told (c .if1 .left), one-counted its told (c .if1 .left))
+
+pub first-bad-load-spec : {M : Type 1} → statement M
+first-bad-load-spec =
+    tie.close
+    (tie.spec
+    Inv-loop μ-loop (λ c κs. tt) (λ c. omega arith) loop-holds (λ c κs. tt) (λ c. omega arith) (λ c κs. tt) (λ c κs. tt) (λ c. omega arith)
+    (λ c κs. tt) (λ c κs. tt) returns (λ c. omega (arith, room c)) (λ c. omega (arith, room c)) (λ c. omega (arith, room c))
+    (λ c. omega (arith, room c)) (λ c. omega arith) (λ c. omega arith) loop-again (λ c. all-passed (c .before .loop .inv .0) (c .loop-test .left)))

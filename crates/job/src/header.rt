@@ -1,0 +1,54 @@
+// The header but for its count of walls, and where the records behind it stand.
+use crate::bytes;
+use record::FIELDS;
+ghost use mathlib.Core.Path.{_≡_};
+ghost use Prim.Native.Nat.{_+_, _*_, _<_, _^_};
+ghost use Rattle.rules.specs.JobFile.{headerBytes, wallBytes, edition, wallCount, firstWallOffset, loadCount, firstLoadOffset, wholeLength};
+
+pub const HEADER_BYTES: usize = 12;
+
+const WALL_BYTES: usize = 4 * FIELDS;
+
+pub fn edition(file: &[u8]) -> u16
+    ensures { λ r. ⌜ r ≡ edition (now (file .entry)) ⌝ }
+{
+    bytes::u16_at(file, 0)
+}
+
+pub fn first_wall_offset(file: &[u8]) -> u16
+    ensures { λ r. ⌜ r ≡ firstWallOffset (now (file .entry)) ⌝ }
+{
+    bytes::u16_at(file, 4)
+}
+
+pub fn load_count(file: &[u8]) -> u16
+    ensures { λ r. ⌜ r ≡ loadCount (now (file .entry)) ⌝ }
+{
+    bytes::u16_at(file, 6)
+}
+
+pub fn first_load_offset(file: &[u8]) -> u16
+    ensures { λ r. ⌜ r ≡ firstLoadOffset (now (file .entry)) ⌝ }
+{
+    bytes::u16_at(file, 8)
+}
+
+pub fn whole_length(file: &[u8]) -> u16
+    ensures { λ r. ⌜ r ≡ wholeLength (now (file .entry)) ⌝ }
+{
+    bytes::u16_at(file, 10)
+}
+
+// Where so many walls end, the first of which stands behind the header.
+pub fn walls_end(walls: u32) -> usize
+    ensures { λ r. ⌜ (r ≡ headerBytes + wallBytes * walls) × (r < 2 ^ 40) ⌝ }
+{
+    HEADER_BYTES + WALL_BYTES * (walls as usize)
+}
+
+// Where the first entry stands: behind as many walls as the header says.
+pub fn entries_at(file: &[u8]) -> usize
+    ensures { λ r. ⌜ (r ≡ headerBytes + wallBytes * wallCount (now (file .entry))) × (r < 2 ^ 40) ⌝ }
+{
+    walls_end(crate::wall_count(file) as u32)
+}

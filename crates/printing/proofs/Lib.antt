@@ -1,4 +1,0 @@
-pub mod Decimals
-pub mod Lengths
-pub mod Owned
-pub mod Signs

@@ -1,0 +1,21 @@
+-- Document 01, "How strictly it is promised": no second answer fits, of each public entry.
+use Rattle.whole.proofs.OnlyOne.{Once, by-equation}
+use Rattle.record.proofs as record′
+
+pub field : Once record′.field.ended record′.field.Reads.Asked record′.field.Reads.Learnt
+field = (λ _ _. tt, λ _ _ _ _ _ _ is its. by-equation (is .0) (its .0))
+
+pub base-length : Once record′.base_length.ended record′.base_length.Reads.Asked record′.base_length.Reads.Learnt
+base-length = (λ _ _. tt, λ _ _ _ _ _ _. by-equation)
+
+pub wall-height : Once record′.wall_height.ended record′.wall_height.Reads.Asked record′.wall_height.Reads.Learnt
+wall-height = (λ _ _. tt, λ _ _ _ _ _ _. by-equation)
+
+pub wall-answer : Once record′.wall_answer.ended record′.wall_answer.Reads.Asked record′.wall_answer.Reads.Learnt
+wall-answer = (λ _ _. tt, λ _ _ _ _ _ _. by-equation)
+
+pub load-fits : Once record′.load_fits.ended record′.load_fits.Reads.Asked record′.load_fits.Reads.Learnt
+load-fits = (λ _ _. tt, λ _ _ _ _ _ _. by-equation)
+
+pub examined : Once record′.examined.ended record′.examined.Reads.Asked record′.examined.Reads.Learnt
+examined = (λ _ _. tt, λ _ _ _ _ _ _. by-equation)

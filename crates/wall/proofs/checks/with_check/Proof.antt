@@ -1,0 +1,29 @@
+-- `wall::checks::with_check` meets its contract: the shifted bit stands to the left of all that are set, so it is added.
+use Prim.Native.Nat.{_<_, _^_}
+use native.Mathlib.Omega.{arith}
+use borrow.Author.Needs.{needs}
+use lib.Bits.{or-shifted-r}
+use lib.Dec.{lit<}
+use lib.Pow.{shl-exact}
+use Rattle.wall.proofs.checks.with_check.Statement.{statement}
+use Rattle.wall.proofs.checks.with_check.Tie as tie
+
+shift-of-requires : tie.Need-shift-of-requires
+shift-of-requires c κs = search needs
+
+cast-result : tie.Need-cast-result
+cast-result c = search needs
+
+shl-result : tie.Need-shl-result
+shl-result c = search needs
+
+returns : tie.Need-returns
+returns c =
+    let h : c .before .before .args .failures < 2 ^ c .shift-of .result = omega arith in
+    rw (shl-exact 1 (c .shift-of .result) 8 (lit< tt) (omega arith), or-shifted-r 1 (c .shift-of .result) _ h, c .before .if1 .taken) (omega arith)
+
+returns-2 : tie.Need-returns-2
+returns-2 c = rw (c .if1 .left) (omega arith)
+
+pub with-check-spec : {M : Type 1} → statement M
+with-check-spec = tie.close (tie.spec shift-of-requires cast-result shl-result returns returns-2)

@@ -1,0 +1,7 @@
+-- `wall::sections::toe_section` meets its contract.
+use borrow.Author.Needs.{needs}
+use Rattle.wall.proofs.sections.toe_section.Statement.{statement}
+use Rattle.wall.proofs.sections.toe_section.Tie as tie
+
+pub toe-section-spec : {M : Type 1} → statement M
+toe-section-spec = tie.close (tie.spec (λ c κs. search needs) (λ c κs. search needs) (λ c. rw (c .before .toe-cage .ensures) at (c .section-of .ensures)))
