@@ -14,8 +14,19 @@ static int64_t numbers[OFFICE_LINE_NUMBERS * OFFICE_MOST_WALLS];
 static uint8_t text[OFFICE_TEXT_ROOM];
 static double figures[OFFICE_FIGURE_ROOM];
 
-static const char *const checks[8] = {
-    "slides", "overturns", "a pressure is over the allowable", "no service block", "no factored block", "toe steel", "stem steel", "shear"};
+static const struct {
+    uint8_t bit;
+    const char *words;
+} checks[] = {
+    {OFFICE_SLIDES, "slides"},
+    {OFFICE_OVERTURNS, "overturns"},
+    {OFFICE_OVER_ALLOWABLE, "a pressure is over the allowable"},
+    {OFFICE_NO_SERVICE_BLOCK, "no service block"},
+    {OFFICE_NO_FACTORED_BLOCK, "no factored block"},
+    {OFFICE_TOE_STEEL_FAILS, "toe steel"},
+    {OFFICE_STEM_STEEL_FAILS, "stem steel"},
+    {OFFICE_SHEAR_FAILS, "shear"},
+};
 
 static const char *reason(uint32_t refusal)
 {
@@ -45,13 +56,14 @@ static int refused(uint64_t answer)
 static void print_verdict(const int64_t *line)
 {
     const char *before = " fails: ";
+    uint8_t failures = (uint8_t)line[OFFICE_LINE_FAILURES];
     printf("wall %d", (int)line[OFFICE_LINE_WALL]);
-    for (int i = 0; i < 8; i++)
-        if (line[OFFICE_LINE_FAILURES] >> i & 1) {
-            printf("%s%s", before, checks[i]);
+    for (size_t i = 0; i < sizeof checks / sizeof checks[0]; i++)
+        if (office_has_failed(failures, checks[i].bit)) {
+            printf("%s%s", before, checks[i].words);
             before = ", ";
         }
-    printf("%s\n", line[OFFICE_LINE_FAILURES] == 0 ? " passes" : "");
+    printf("%s\n", failures == 0 ? " passes" : "");
 }
 
 static void print_drawing(uint32_t shape)

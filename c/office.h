@@ -2,7 +2,7 @@
  * The wall sheet for C and C++: the numbers of a job's sheet, its printed text, and the drawing of one of its walls.
  *
  * The functions stand in target/staticlib/liboffice.a, which `rt staticlib office` makes for x86-64 Linux. They are written in Rattle
- * (crates/office), and each is proved to answer what its comment says for every job and every buffer, and to return. They keep nothing
+ * (crates/office), and each is proved to answer what its comment says for every job, buffer and number, and to return. They keep nothing
  * from one call to the next, allocate nothing, and call nothing but memcpy and memset, so threads may call them at the same time.
  *
  * The proofs can't see a caller in C. What each caller owes:
@@ -17,6 +17,7 @@
 #ifndef OFFICE_H
 #define OFFICE_H
 
+#include <stdbool.h>
 #include <stddef.h>
 #include <stdint.h>
 
@@ -97,6 +98,12 @@ enum office_failure {
  * than 16 numbers for each wall. The shape is 0.
  */
 uint64_t office_calculate(const uint8_t *job, size_t job_length, int64_t *out, size_t out_length);
+
+/*
+ * Is the bit of a check set in the failures of a line? They are its number at OFFICE_LINE_FAILURES, which a uint8_t holds. The check is
+ * named by its bit, one of enum office_failure; of any other number the answer is false.
+ */
+bool office_has_failed(uint8_t failures, uint8_t check);
 
 /* ---- the sheet as it is printed */
 

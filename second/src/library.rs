@@ -15,6 +15,7 @@ extern "C" {
         out: *mut f64,
         out_length: usize,
     ) -> u64;
+    fn office_has_failed(failures: u8, check: u8) -> bool;
 }
 
 /// The library's answers.
@@ -35,5 +36,10 @@ impl Office for Library {
         let (figures, room) = (out.as_mut_ptr(), out.len());
         // SAFETY: as above.
         Packed(unsafe { office_drawing(job.as_ptr(), job.len(), wall, figures, room) })
+    }
+
+    fn has_failed(&self, failures: u8, check: u8) -> bool {
+        // SAFETY: two numbers are all that the library is given.
+        unsafe { office_has_failed(failures, check) }
     }
 }

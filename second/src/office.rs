@@ -1,13 +1,13 @@
 //! The entries of the office library, and this program's answers in their place.
 //!
-//! How much must be lent, how an answer is packed and the numbers of the shapes
-//! are those of `c/office.h`, as document 01 has none of them; the rest is
-//! document 01's.
+//! How much must be lent, how an answer is packed, the numbers of the shapes and
+//! how a check is asked for are those of `c/office.h`, as document 01 has none of
+//! them; the rest is document 01's.
 
 use crate::answers::{Refusal, BUFFER_TOO_SHORT};
 use crate::drawing::{draw, Shape};
 use crate::job_file::MOST_WALLS;
-use crate::sheet_line::LINE_NUMBERS;
+use crate::sheet_line::{CHECKS, LINE_NUMBERS};
 use std::fmt;
 
 /// Letters of the longest number of 64 bits, its sign and what ends it.
@@ -79,6 +79,10 @@ pub trait Office {
     /// A wall's drawing at the start of `out`: R, H, the distance, and the two
     /// figures of a shape that has any.
     fn drawing(&self, job: &[u8], wall: u32, out: &mut [f64]) -> Packed;
+
+    /// Whether the bit of a check, by which it is asked for, is set in the
+    /// failures of a line; false of a number that is no check's bit.
+    fn has_failed(&self, failures: u8, check: u8) -> bool;
 }
 
 /// This program's own answers.
@@ -113,6 +117,10 @@ impl Office for Second {
             *place = quotient.value();
         }
         Packed::from(&drawing.shape)
+    }
+
+    fn has_failed(&self, failures: u8, check: u8) -> bool {
+        CHECKS.contains(&check) && failures & check != 0
     }
 }
 

@@ -20,6 +20,18 @@ pub const TOE_STEEL: u8 = 32;
 pub const STEM_STEEL: u8 = 64;
 pub const SHEAR: u8 = 128;
 
+/// The bits of all checks.
+pub const CHECKS: [u8; 8] = [
+    SLIDES,
+    OVERTURNS,
+    OVER_ALLOWABLE,
+    NO_SERVICE_BLOCK,
+    NO_FACTORED_BLOCK,
+    TOE_STEEL,
+    STEM_STEEL,
+    SHEAR,
+];
+
 /// Everything worked for one wall.
 #[derive(Clone, Debug, PartialEq)]
 pub struct Worked {

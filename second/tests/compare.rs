@@ -5,6 +5,7 @@ use second::answers::accept;
 use second::compare::{run, Found, Until, Wish};
 use second::generator::{numbered, KINDS};
 use second::office::{Office, Packed, Second, TEXT_ROOM};
+use second::sheet_line::{STEM_STEEL, TOE_STEEL};
 use std::time::Duration;
 
 const JOBS: usize = 12 * KINDS.len();
@@ -50,6 +51,8 @@ faults! {
     ShapeOfRefusal,
     NoSuchWallLast,
     PlaceOfNoWall,
+    SteelOfTheOther,
+    AnyBitOfNumber,
     Panic,
 }
 
@@ -103,6 +106,15 @@ impl Office for Wrong {
         }
         answer
     }
+
+    fn has_failed(&self, failures: u8, check: u8) -> bool {
+        match (self.0, check) {
+            // Of a wall's own failures alone, which never have 4 and 8 both.
+            (SteelOfTheOther, TOE_STEEL) if failures & 12 != 12 => failures & STEM_STEEL != 0,
+            (AnyBitOfNumber, _) => failures & check != 0,
+            _ => Second.has_failed(failures, check),
+        }
+    }
 }
 
 fn found(office: &(impl Office + Sync), threads: usize) -> Option<Found> {
@@ -138,6 +150,8 @@ fn what_differs_is_said() {
     assert!(words.ends_with("place 0, shape 0) and not (number 18, place 4294967295, shape 0)"));
     let words = said(NumberBehind);
     assert!(words.starts_with("calculate, ") && words.contains(" holds 0 and not -922"));
+    let words = "check 255 in failures 0c: the answer is true and not false";
+    assert_eq!(said(AnyBitOfNumber), words);
     assert_eq!(said(Panic), "a panic: a ninth load");
 }
 

@@ -102,3 +102,22 @@ fn a_drawing_of_nothing_has_three_figures() {
     assert!(out[2] < 0.0 && out[2] != -0.5);
     assert_eq!(out[3..], [-0.5; 3]);
 }
+
+/// A check is asked for by its bit, and no number but these eight is one.
+#[test]
+fn checks_are_asked_for_by_their_bits() {
+    let bits = [1, 2, 4, 8, 16, 32, 64, 128];
+    let set = |failures: u8| -> Vec<u8> {
+        let asked = 0..=u8::MAX;
+        asked
+            .filter(|check| Second.has_failed(failures, *check))
+            .collect()
+    };
+    assert_eq!(set(u8::MAX), bits);
+    assert_eq!(set(0), []);
+    assert_eq!(set(0b1010_0110), [2, 4, 32, 128]);
+    for bit in bits {
+        assert_eq!(set(bit), [bit]);
+        assert!(!set(u8::MAX - bit).contains(&bit));
+    }
+}

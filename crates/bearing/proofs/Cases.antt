@@ -6,7 +6,7 @@ use native.Mathlib.Omega.{arith}
 use lib.IntN.{pos}
 use Rattle.whole.proofs.Integer.{pos-<ℤ, pos-sub}
 use Rattle.rules.specs.declared.Kind.{Kind}
-use Rattle.rules.specs.declared.Kind.the-variants.{Full, FromToe, FromHeel, NoBlock}
+use Rattle.rules.specs.declared.Kind.the-variants.{Full, FromHeel}
 use Rattle.rules.specs.Bearing.{_over_, overOne, isNone, kindOf, noBlock, ofKind, blockOf}
 use Rattle.rules.proofs.Carries.{Makes, kind-makes}
 use Rattle.bearing.specs.Within.{Within}
@@ -28,7 +28,7 @@ module _ (R M6 l : ℕ) where
   unfolding blockOf
   made w k h = ap (λ (k : Kind). ofKind k (pos R) (pos M6) (pos l)) (kind w k .1 h)
 
-  -- ---- the figures of each kind
+  -- ---- the figures that are differences
 
   pub full-figures : 2 * R * l ≤ M6 → M6 ≤ 4 * R * l
       → ofKind Full (pos R) (pos M6) (pos l)
@@ -36,17 +36,8 @@ module _ (R M6 l : ℕ) where
   unfolding ofKind
   full-figures low high = rw (pos-sub {a = 4 * R * l} {b = M6} high, pos-sub {a = M6} {b = 2 * R * l} low)
 
-  pub toe-figures : ofKind FromToe (pos R) (pos M6) (pos l)
-      ≡ record { kind = FromToe; toe = pos (4 * R * R) over pos M6; heel = overOne (pos 0); contact = pos M6 over pos (2 * R) }
-  unfolding ofKind
-  toe-figures = refl
-
   pub heel-figures : M6 < 6 * R * l
       → ofKind FromHeel (pos R) (pos M6) (pos l)
       ≡ record { kind = FromHeel; toe = overOne (pos 0); heel = pos (4 * R * R) over pos (6 * R * l - M6); contact = pos (6 * R * l - M6) over pos (2 * R) }
   unfolding ofKind
   heel-figures short = rw (pos-sub {a = 6 * R * l} {b = M6} (omega arith))
-
-  pub none-figures : ofKind NoBlock (pos R) (pos M6) (pos l) ≡ noBlock
-  unfolding ofKind
-  none-figures = refl

@@ -16,7 +16,7 @@ use Rattle.rules.specs.Bearing.{isNone, kindOf, noBlock, ofKind, blockOf, overO
 use Rattle.rules.proofs.Carries.{Makes}
 use Rattle.bearing.specs.Within.{Scaled, Reportable}
 use Rattle.bearing.proofs.Bounds.{bounds}
-use Rattle.bearing.proofs.Cases.{none, its-case, full-figures, toe-figures, heel-figures, none-figures}
+use Rattle.bearing.proofs.Cases.{none, its-case, full-figures, heel-figures}
 
 -- the block is made of what lies above 0: where M6 doesn't, there is none
 pub whole-block : (R M6 : ℤ) (l : ℕ) → pos 0 ≤ℤ R → blockOf R M6 (pos l) ≡ blockOf (pos (aboveZero R)) (pos (aboveZero M6)) (pos l)
@@ -36,12 +36,13 @@ module _ (scale R M6 l : ℕ) (s : Scaled scale R M6 l) where
   along n h = omega (arith, bounds (s .within), mul-le-mul (s .small) h)
 
   of-kind : (k : Kind) → Makes k (pos R) (pos M6) (pos l) → Reportable scale (ofKind k (pos R) (pos M6) (pos l))
+  unfolding ofKind
   of-kind Full h =
       rw (full-figures R M6 l (pos-≤ℤ .0 (h .0)) (pos-≤ℤ .0 (h .1)))
       (record { toe = along _ (omega arith); heel = along _ (omega (arith, pos-≤ℤ .0 (h .1))) })
-  of-kind FromToe h = rw (toe-figures R M6 l) (record { toe = s .square; heel = omega arith })
+  of-kind FromToe h = record { toe = s .square; heel = omega arith }
   of-kind FromHeel h = rw (heel-figures R M6 l (s .within .on-base)) (record { toe = omega arith; heel = s .square })
-  of-kind NoBlock h = rw (none-figures R M6 l) (nothing scale)
+  of-kind NoBlock h = nothing scale
 
 -- those of any block fit
 fits : (scale R M6 l : ℕ) → (0 < M6 → Scaled scale R M6 l) → Reportable scale (blockOf (pos R) (pos M6) (pos l))

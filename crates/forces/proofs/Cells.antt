@@ -7,11 +7,11 @@ use lib.IntN.{ℤ, pos, natAbs}
 use lib.ListN.{getD, List·getD-map}
 use Rattle.whole.proofs.Lists.{all-joined}
 use Rattle.rules.specs.JobFile.{Wall, Load, stemHeight, baseThickness, restCoefficient, baseLength, greatestLoad}
-use Rattle.rules.specs.Forces.{table, saturatedHeight, Sort, Component, pushRows, loadTable}
+use Rattle.rules.specs.Forces.{saturatedHeight, Sort, Component, pushRows, loadTable}
 use Rattle.rules.proofs.Moments.{balances}
-use Rattle.rules.proofs.Accepted.{most, WallWithin, wall-within, base-length}
+use Rattle.rules.proofs.Accepted.{WallWithin, wall-within, base-length}
 use Rattle.rules.proofs.Examined.{Fit}
-use Rattle.rules.proofs.Sizes.{Sound, weight, pushes-sound, stem-face, none, loads-sound, row-at, cell-at, cells-small}
+use Rattle.rules.proofs.Sizes.{Sound, weight, pushes-sound, stem-face, none, loads-sound, row-at, cell-at}
 use Rattle.forces.specs.Faces.{rowsOf}
 use Rattle.forces.specs.Tables.{onStem, nothing, stemInPlace}
 use Rattle.forces.proofs.OnStem.{stem-fit}
@@ -40,10 +40,7 @@ module _ (wall : Wall) (loads : List Load) (f : Fit wall loads) where
       row-at (baseLength wall) greatestLoad (stemInPlace wall loads)
       (idle refl, (idle refl, (idle refl, (idle refl, (idle refl, all-joined (Sound (baseLength wall) greatestLoad) pushes (loadTable on) behind under)))))
 
--- every cell of a wall's table is small, and of its stem's
-pub wall-cells : (wall : Wall) (loads : List Load) → Fit wall loads → (K : ℕ) → K ≤ most 16 → SmallCells (rowsOf (table K wall loads))
-wall-cells wall loads f K k = cells-small wall loads f K k
-
+-- every cell of the stem's table is small
 pub stem-cells : (wall : Wall) (loads : List Load) → Fit wall loads → SmallCells (rowsOf (stemInPlace wall loads))
 stem-cells wall loads f i j =
     rw (List·getD-map (λ (c : Component). c .row) (stemInPlace wall loads) i none) (cell-at (stemInPlace wall loads) (stem-sound wall loads f) i j .1)

@@ -1,11 +1,10 @@
 -- The component table as the code fills it: the rows of the rules' table one behind the other, from loads that are small since they fit their wall.
 use mathlib.Core.Path.{_≡_, refl}
 use mathlib.Core.Bool.{Bool, true, false, cond}
-use mathlib.Core.List.{List, [], _∷_, _++_, append-assoc, map-append, map-map}
+use mathlib.Core.List.{List, [], _++_, append-assoc, map-append, map-map}
 use Prim.Native.Nat.{ℕ, zero, suc, _≤_, _<_}
 use native.Mathlib.Omega.{arith}
 use lib.ListN.{getD}
-use lib.IntN.{ℤ}
 use Rattle.whole.proofs.Lists.{all-at, of-either}
 use Rattle.rules.specs.JobFile.{Wall, Load, greatestLoad, baseLength, wallHeight, isDown, position, reach}
 use Rattle.rules.specs.Forces.{Component, loadRow, deadRow, liveRow, loadTable}
@@ -42,10 +41,6 @@ loads-small wall loads f i =
     record { numbers = light w load l; place = near w load l }
 
 -- ---- the rows
-
--- five rows are those that each of them is
-pub five : {a b c d e v w x y z : List ℤ} → a ≡ v → b ≡ w → c ≡ x → d ≡ y → e ≡ z → a ∷ b ∷ c ∷ d ∷ e ∷ [] ≡ v ∷ w ∷ x ∷ y ∷ z ∷ []
-five p q r s t = rw (p, q, r, s, t)
 
 -- put in place are the rows of components: weights, pushes and the parts of the loads
 pub in-place : (weights pushes : List Component) (loads : List Load)

@@ -20,10 +20,10 @@ use Rattle.rules.specs.Forces.{Sort, deadWeight, liveWeight, deadPush, livePush
 use Rattle.rules.proofs.Moments.{balances, one-sum}
 use Rattle.rules.proofs.Accepted.{both, every, most}
 use Rattle.rules.proofs.Examined.{Fit}
-use Rattle.rules.proofs.Sizes.{none}
+use Rattle.rules.proofs.Sizes.{none, cells-small}
 use Rattle.forces.specs.Faces.{rowsOf}
 use Rattle.forces.specs.Tables.{components, onStem, stemInPlace}
-use Rattle.forces.proofs.Cells.{SmallCells, wall-cells, stem-cells}
+use Rattle.forces.proofs.Cells.{SmallCells, stem-cells}
 use Rattle.forces.proofs.OnStem.{same-way}
 use Rattle.forces.specs.Sorts.{placeOf, weightsOf, firstSorts, byWay, sortsOf, weighted, weightedSum, Small, Light, AllLight, totalWeights, totalsBy}
 use Rattle.whole.proofs.Indexed.{joined-length}
@@ -114,7 +114,7 @@ pub record Summable (loads : List Load) (rows : List Component) : Type 0 where
 
 module _ (wall : Wall) (loads : List Load) (f : Fit wall loads) where
   pub wall-summable : (K : ℕ) → K ≤ most 16 → Summable loads (table K wall loads)
-  wall-summable K k = record { places = of-wall K wall loads; cells = wall-cells wall loads f K k }
+  wall-summable K k = record { places = of-wall K wall loads; cells = cells-small wall loads f K k }
 
   pub stem-summable : Summable loads (stemInPlace wall loads)
   stem-summable = record { places = of-stem wall loads; cells = stem-cells wall loads f }

@@ -91,5 +91,5 @@ module _ {file : File} {i : ℕ} {counts : List ℕ} {entry : Entry} {passed : �
     pub one-counted : Counted file (i + 1) (set counts (wallOf entry) (passed + 1))
     one-counted =
         let k : 0 + wallOf entry ≡ wallOf entry = omega arith in
-        rw (add-one, one-more file i, ← met .its)
+        rw (add-one i, one-more file i, ← met .its)
         (one-kept not-counted (met .counted) entry (wallOf entry) (passed + 1) (omega (arith, has-room .0)) k (rw (right (fits .0)) (counted-once (passedLoads file i) entry)))

@@ -10,9 +10,10 @@ use lib.Dec.{T, ltb, eqb}
 use lib.ListN.{length}
 use Rattle.rules.specs.declared.Answer.{Answer}
 use Rattle.rules.specs.declared.Answer.the-variants.{Worked, TooShort, WrongEdition, CountOutOfRange, WrongOffsetOrLength}
-use Rattle.rules.specs.JobFile.{File, headerBytes, edition, wallCount, mostWalls, loadCount, wallAt, entryAt, recordsFrom, walls, entries, wallOf, loadsOn}
+use Rattle.rules.specs.JobFile.{File, Wall, Load, baseLength, wallHeight, reach, loadFits, headerBytes, edition, wallCount, mostWalls, loadCount, wallAt, entryAt, recordsFrom, walls, entries, wallOf, loadsOn}
 use Rattle.rules.specs.Answered.{isWorked, refusedIf, _orElse_, countsFit, offsetsAndLengthFit, wallAnswer, firstBadWall, entryFits, isOneMore, firstBadLoad, firstRefusal}
 use Rattle.rules.proofs.AcceptedFile.{walls-counted}
+use Rattle.job.specs.Lengths.{lengthsOf}
 use Rattle.job.specs.Refusals.{headerAnswer, loadAnswer}
 use Rattle.job.proofs.Passed.{passedLoads, one-more}
 
@@ -105,6 +106,11 @@ unfolding walls
 no-wall-passed file = none-passed (walls-from file 0 (wallCount file))
 
 -- ---- loads
+
+-- a load fits a wall exactly where it fits the wall's lengths
+pub by-lengths : (wall : Wall) (load : Load) → loadFits (lengthsOf wall) load ≡ loadFits wall load
+unfolding lengthsOf baseLength wallHeight reach loadFits
+by-lengths wall load = refl
 
 -- what is answered of the load at an index
 abbrev pub loadAnswerAt : File → ℕ → Answer

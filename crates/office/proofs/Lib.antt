@@ -1,3 +1,4 @@
+pub mod Asked
 pub mod Lent
 pub mod Once
 pub mod ReadsBack

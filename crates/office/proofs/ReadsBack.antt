@@ -1,4 +1,4 @@
--- The parts of a packed number: how great each is, and that C reads them back.
+-- The parts of a packed number, which C reads back.
 use Prim.Native.Nat.{ℕ, _/_, _%_, _≤_, _<_, _^_}
 use mathlib.Core.Path.{_≡_, refl, sym}
 use mathlib.Core.Bool.{false}
@@ -16,19 +16,8 @@ use Rattle.rules.specs.declared.Shape.the-variants.{Whole, ToeTriangle, HeelTri
 use Rattle.rules.specs.JobFile.{File}
 use Rattle.rules.specs.Answered.{number, place, isWorked}
 use Rattle.rules.specs.SheetLine.{answerTo}
+use Rattle.rules.proofs.Replies.{number-below}
 use Rattle.office.specs.Packed.{shapeNumber, packed, Packs, CalculatesPacked, drawingTo, DrawsPacked}
-
-pub number-small : (answer : Answer) → number answer ≤ 18
-number-small Worked = omega arith
-number-small TooShort = omega arith
-number-small WrongEdition = omega arith
-number-small CountOutOfRange = omega arith
-number-small WrongOffsetOrLength = omega arith
-number-small (WallOutOfRange wall) = omega arith
-number-small (LoadOutOfRange load) = omega arith
-number-small (NinthLoad load) = omega arith
-number-small BufferTooShort = omega arith
-number-small (NoSuchWall wall) = omega arith
 
 pub shape-small : (shape : Shape) → shapeNumber shape ≤ 3
 shape-small Nothing = omega arith
@@ -44,9 +33,7 @@ pub record ReadsBack (answer : Answer) (shape : Shape) (r : ℕ) : Type 0 where
   pub rest : r / 2 ^ 48 ≡ shapeNumber shape
 
 pub reads-back : {answer : Answer} {shape : Shape} {r : ℕ} → Packs answer shape r → ReadsBack answer shape r
-reads-back {answer} packs =
-    let small = number-small answer in
-    record { low = omega arith; next = omega arith; rest = omega arith }
+reads-back {answer} packs = let small = number-below answer in record { low = omega arith; next = omega arith; rest = omega arith }
 
 -- so of what each entry answers
 pub calculation-reads-back : {file : File} {before after : List ℤ} {r : ℕ} → CalculatesPacked file before r after

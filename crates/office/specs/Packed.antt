@@ -1,20 +1,21 @@
--- What C is given: an answer and a shape in one number, and a drawing's figures in a lent buffer, which document 01 has as values.
+-- What C is given: an answer and a shape in one number, and a drawing's figures in a lent buffer, which document 01 has as values. A check is asked for by its bit.
 use Prim.Native.Nat.{ℕ, _+_, _*_, _<_, _^_}
 use mathlib.Core.Path.{_≡_}
-use mathlib.Core.Bool.{_&&_, cond}
-use mathlib.Core.List.{List}
-use lib.Dec.{ltb}
+use mathlib.Core.Bool.{Bool, false, _&&_, cond}
+use mathlib.Core.List.{List, [], _∷_}
+use lib.Dec.{ltb, eqb}
 use lib.IntN.{ℤ}
 use lib.Ieee.{Float}
 use lib.ListN.{length}
 use Rattle.rules.specs.declared.Answer.{Answer}
 use Rattle.rules.specs.declared.Answer.the-variants.{BufferTooShort}
+use Rattle.rules.specs.declared.Check.{Check}
 use Rattle.rules.specs.declared.Drawn.{Drawn}
 use Rattle.rules.specs.declared.Shape.{Shape}
 use Rattle.rules.specs.declared.Shape.the-variants.{Whole, ToeTriangle, HeelTriangle, Nothing}
 use Rattle.rules.specs.JobFile.{File}
 use Rattle.rules.specs.Answered.{number, place, isWorked}
-use Rattle.rules.specs.SheetLine.{answerTo, bufferAfter}
+use Rattle.rules.specs.SheetLine.{bit, isSet, answerTo, bufferAfter}
 use Rattle.rules.specs.Drawing.{undrawn, drawingFor}
 use Rattle.rules.specs.Beyond.{onto, figures}
 
@@ -60,3 +61,10 @@ figuresAfter file n before =
 pub record DrawsPacked (file : File) (n : ℕ) (before : List Float) (r : ℕ) (after : List Float) : Type 0 where
   pub answered : Packs (drawingTo file n (length before) .answer) (drawingTo file n (length before) .shape) r
   pub holds : after ≡ figuresAfter file n before
+
+-- ---- a check by its bit
+
+-- does the byte have it? No check has the bit where the list is at its end
+unfoldable pub hasFailed : List Check → ℕ → ℕ → Bool
+hasFailed [] byte n = false
+hasFailed (check ∷ rest) byte n = cond (eqb n (bit check)) (isSet byte check) (hasFailed rest byte n)

@@ -1,5 +1,7 @@
-// The sheet for C: the three entries of `sheet`, with one number for what each answers. Any bytes are a job, and any buffer may be lent.
+// The sheet for C: the three entries of `sheet`, with one number for what each answers, and what the failures of a line say of a check. Any bytes are a
+// job, and any buffer may be lent.
 use rules::Answer;
+use rules::Check;
 use rules::Drawn;
 use rules::Shape;
 ghost use mathlib.Core.List.{[], _∷_};
@@ -7,7 +9,8 @@ ghost use mathlib.Core.Path.{_≡_};
 ghost use Prim.Native.Nat.{_≤_};
 ghost use lib.ListN.{length};
 ghost use Rattle.rules.specs.Beyond.{Prints, onto, shapeFigures, figures};
-ghost use Rattle.office.specs.Packed.{shapeNumber, Packs, figureRoom, CalculatesPacked, DrawsPacked};
+ghost use Rattle.rules.specs.SheetLine.{checks};
+ghost use Rattle.office.specs.Packed.{shapeNumber, Packs, figureRoom, CalculatesPacked, DrawsPacked, hasFailed};
 
 // A refusal's number stands above the 32 bits of its place.
 const NUMBER: u64 = 1 << 32;
@@ -107,4 +110,22 @@ pub extern "C" fn office_drawing(job: &[u8], wall: u32, out: &mut [f64]) -> u64
     }
     put_figures(drawn, out);
     packed(answer, shape)
+}
+
+// Is the bit of a check set in the failures of a line? The check is named by its bit; of a number that is no check's bit the answer is false.
+#[no_mangle]
+pub extern "C" fn office_has_failed(failures: u8, check: u8) -> bool
+    ensures { λ r. ⌜ r ≡ hasFailed checks failures check ⌝ }
+{
+    match check {
+        1 => wall::has_failed(failures, Check::Slides),
+        2 => wall::has_failed(failures, Check::Overturns),
+        4 => wall::has_failed(failures, Check::OverAllowable),
+        8 => wall::has_failed(failures, Check::NoServiceBlock),
+        16 => wall::has_failed(failures, Check::NoFactoredBlock),
+        32 => wall::has_failed(failures, Check::ToeSteel),
+        64 => wall::has_failed(failures, Check::StemSteel),
+        128 => wall::has_failed(failures, Check::Sheared),
+        _ => false,
+    }
 }

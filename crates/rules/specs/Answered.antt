@@ -60,6 +60,7 @@ offsetsAndLengthFit file =
 
 -- ---- 5: walls in file order, the first of them number n
 
+-- a wall with a field out of range is refused at the number that it has
 unfoldable pub wallAnswer : ℕ → Wall → Answer
 wallAnswer n wall = refusedIf (not (wallFits wall)) (WallOutOfRange n)
 

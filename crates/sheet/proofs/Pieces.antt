@@ -1,19 +1,20 @@
 -- Pieces put one behind the other into a lent buffer: the lines of a sheet, and their texts.
 use Prim.Native.Nat.{ℕ, zero, suc, _+_, _*_, _≤_, _<_}
-use mathlib.Core.Path.{_≡_, sym, ap, subst, _∙_}
+use mathlib.Core.Path.{_≡_, refl, sym, ap, _∙_}
 use mathlib.Core.List.{List, [], _∷_, _++_, append-assoc, append-nil}
 use native.Mathlib.Nat.{suc-add}
 use native.Mathlib.Omega.{arith}
-use lib.ListN.{length, getD, take, length-append}
+use lib.ListN.{length, getD, take, length-append, length-drop}
 use lib.Seq.{take-all}
 use Rattle.whole.proofs.Lists.{All}
 use Rattle.rules.specs.SheetLine.{joined}
 use Rattle.rules.specs.Beyond.{Put}
-use Rattle.rules.proofs.Putting.{behind, withBack, no-text, then-text}
+use Rattle.rules.proofs.Putting.{behind, withBack, behind-is, no-text, then-text, put-length}
 
--- so many of the pieces are put
+-- so many of the pieces are put, and the buffer keeps its length
 pub record Pieced {A : Type 0} (pieces : List (List A)) (before : List A) (i at : ℕ) (out : List A) : Type 0 where
   pub put : Put (joined (take i pieces)) before at out
+  pub kept : length out ≡ length before
 
 module _ {A : Type 0} where
   -- pieces of one length
@@ -36,15 +37,20 @@ module _ {A : Type 0} where
     -- none is put yet
     pub none-put : Pieced pieces before 0 0 before
     unfolding joined
-    none-put = record { put = no-text before }
+    none-put = record { put = no-text before; kept = refl }
 
     module _ {i at : ℕ} {out : List A} (so-far : Pieced pieces before i at out) where
-      -- the next one goes behind those
-      pub one-further : {part : List A} {count : ℕ} → i < length pieces → Put (getD pieces i []) (behind at out) count part
+      -- the part behind those has the room that is left
+      pub room-behind : {room : ℕ} → at + room ≤ length before → room ≤ length (behind at out)
+      room-behind h = omega (arith, so-far .kept, ap (λ (l : List A). length l) (behind-is at out), length-drop at out)
+
+      -- the next one goes there
+      pub one-further : {part : List A} {count : ℕ} → i < length pieces → at + count ≤ length before → Put (getD pieces i []) (behind at out) count part
           → Pieced pieces before (i + 1) (at + count) (withBack at out part)
-      one-further {part} {count} h put =
-          record { put = rw (joined-one-more pieces i h) (then-text (so-far .put) put) }
+      one-further {part} {count} h room next =
+          let put = then-text (so-far .put) next in
+          record { put = rw (joined-one-more pieces i h) put; kept = put-length put (omega (arith, put .counted)) }
 
       -- at last all are put
       pub all-put : length pieces ≤ i → Put (joined pieces) before at out
-      all-put h = subst (λ (l : List (List A)). Put (joined l) before at out) (take-all i pieces h) (so-far .put)
+      all-put h = rw (take-all i pieces h) at (so-far .put)

@@ -4,17 +4,17 @@ use mathlib.Core.Bool.{Bool, true, false, cond, and-false}
 use mathlib.Core.List.{List}
 use Prim.Native.Nat.{ℕ, _<_}
 use borrow.Author.Tests.{lt-ltb}
-use lib.Dec.{T, ltb}
+use lib.Dec.{ltb}
 use lib.Ieee.Bits.{is-true}
 use lib.IntN.{pos}
 use lib.ListN.{replicate}
 use Rattle.rules.specs.declared.Block.{Block}
-use Rattle.rules.specs.JobFile.{Wall, Load, toeLength, baseLength}
+use Rattle.rules.specs.JobFile.{Wall, Load, toeLength}
 use Rattle.rules.specs.Answered.{isWorked}
-use Rattle.rules.specs.Bearing.{factoredScale, isGiven, pressedBy}
-use Rattle.rules.specs.ToeAndStem.{toeWorked, toeAction, stemAction, toeSection, memberUnder, noMember, toeUnder, toe, stem}
+use Rattle.rules.specs.Bearing.{isGiven, pressedBy}
+use Rattle.rules.specs.ToeAndStem.{toeWorked, toeAction, toeSection, memberUnder, noMember, toeUnder, toe, stem}
 use Rattle.rules.specs.SheetLine.{workedWall, lineNumbers, line}
-use Rattle.rules.specs.Beyond.{examined, fits, noForces, workedForces, forcesOf, workedBearing, bearingOf, isWorkable, lineOf}
+use Rattle.rules.specs.Beyond.{examined, fits, noForces, workedForces, forcesOf, workedBearing, bearingOf, lineOf}
 use Rattle.rules.proofs.Carries.{worked-blocks}
 use Rattle.rules.proofs.Examined.{Fit, fits-of}
 use Rattle.rules.proofs.Pressures.{factored-pressable}

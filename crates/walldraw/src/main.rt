@@ -8,7 +8,15 @@ use libc::STDIN_FILENO;
 use libc::STDOUT_FILENO;
 use text::LINE_ROOM;
 
-// The drawing of the wall with this number.
+// The drawing of a wall of the job; answers whether standard output took it all.
+fn print_drawing(job: &[u8], wall: u32) -> bool {
+    let drawn = sheet::drawing(job, wall);
+    let mut line = [0u8; LINE_ROOM];
+    let count = text::drawing_text(drawn, &mut line);
+    io::write_all(STDOUT_FILENO, &line[..count])
+}
+
+// That of the wall with this number.
 fn draw(wall: u32) {
     let mut job = io::large_buffer();
     let length = io::read_full(STDIN_FILENO, &mut job);
@@ -16,10 +24,7 @@ fn draw(wall: u32) {
         os::fail(b"stdin");
         return;
     }
-    let drawn = sheet::drawing(&job[..length], wall);
-    let mut line = [0u8; LINE_ROOM];
-    let count = text::drawing_text(drawn, &mut line);
-    if !io::write_all(STDOUT_FILENO, &line[..count]) {
+    if !print_drawing(&job[..length], wall) {
         os::fail(b"stdout");
     }
 }

@@ -3,6 +3,13 @@
 use libc::STDIN_FILENO;
 use libc::STDOUT_FILENO;
 
+// The sheet of a job; answers whether standard output took it all.
+fn print_sheet(job: &[u8]) -> bool {
+    let mut text = io::large_buffer();
+    let count = sheet::text(job, &mut text);
+    io::write_all(STDOUT_FILENO, &text[..count])
+}
+
 fn main() {
     let mut job = io::large_buffer();
     let length = io::read_full(STDIN_FILENO, &mut job);
@@ -10,9 +17,7 @@ fn main() {
         os::fail(b"stdin");
         return;
     }
-    let mut text = io::large_buffer();
-    let count = sheet::text(&job[..length], &mut text);
-    if !io::write_all(STDOUT_FILENO, &text[..count]) {
+    if !print_sheet(&job[..length]) {
         os::fail(b"stdout");
     }
 }

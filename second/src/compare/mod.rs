@@ -12,7 +12,7 @@ use crate::answers::accept;
 use crate::job_file::{Header, MOST_WALLS};
 use crate::office::{Office, Packed, Second, DRAWING_ROOM, TEXT_ROOM};
 use crate::random::Random;
-use crate::sheet_line::{work_job, LINE_NUMBERS};
+use crate::sheet_line::{work_job, CHECKS, LINE_NUMBERS, NO_SERVICE_BLOCK, OVER_ALLOWABLE};
 use twins::Twins;
 
 /// The most room that is lent beyond what a job needs.
@@ -23,6 +23,15 @@ const WALLS_ALL_DRAWN: usize = 6;
 
 /// Room for one figure too few, for all, and for two more.
 const DRAWING_ROOMS: [usize; 3] = [DRAWING_ROOM - 1, DRAWING_ROOM, DRAWING_ROOM + 2];
+
+/// No wall fails both: without a service block no pressure is over the allowable.
+const NEVER_BOTH: u8 = OVER_ALLOWABLE | NO_SERVICE_BLOCK;
+
+/// Bytes that are no wall's failures.
+const NO_FAILURES: [u8; 4] = [NEVER_BOTH, NEVER_BOTH | 0x55, NEVER_BOTH | 0xaa, u8::MAX];
+
+/// Numbers that are no check's bit.
+const NO_CHECKS: [u8; 3] = [0, 3, u8::MAX];
 
 pub struct Comparer<'a, O> {
     office: &'a O,
@@ -64,7 +73,12 @@ impl<'a, O: Office> Comparer<'a, O> {
                 self.hold_drawing(job, wall, room)?;
             }
         }
-        self.tally.count_job(&accepted.map(|job| work_job(&job)));
+        let worked = accepted.map(|job| work_job(&job));
+        let walls = worked.iter().flatten().map(|wall| wall.failures);
+        for failures in walls.chain(NO_FAILURES) {
+            self.hold_has_failed(failures)?;
+        }
+        self.tally.count_job(&worked);
         Ok(())
     }
 
@@ -97,6 +111,20 @@ impl<'a, O: Office> Comparer<'a, O> {
         held(differs, || {
             format!("drawing of wall {wall}, {room} figures lent")
         })
+    }
+
+    fn hold_has_failed(&mut self, failures: u8) -> Result<(), String> {
+        for check in CHECKS.into_iter().chain(NO_CHECKS) {
+            let expected = Second.has_failed(failures, check);
+            let given = self.office.has_failed(failures, check);
+            let differs =
+                (given != expected).then(|| format!("the answer is {given} and not {expected}"));
+            self.tally.count_asked(expected);
+            held(differs, || {
+                format!("check {check} in failures {failures:02x}")
+            })?;
+        }
+        Ok(())
     }
 }
 

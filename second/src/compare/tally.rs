@@ -21,6 +21,8 @@ pub struct Tally {
     shapes: [u64; 4],
     /// Calls for a drawing, by their answer.
     drawings: [u64; ANSWERS],
+    /// Calls for a check, by whether its bit is set.
+    asked: [u64; 2],
     /// Walls, by their blocks and by the bits that are set.
     service: [u64; BLOCKS.len()],
     factored: [u64; BLOCKS.len()],
@@ -98,6 +100,10 @@ impl Tally {
         }
     }
 
+    pub fn count_asked(&mut self, set: bool) {
+        count(&mut self.asked, usize::from(set));
+    }
+
     pub fn jobs(&self) -> u64 {
         self.jobs.iter().sum()
     }
@@ -109,6 +115,7 @@ impl Tally {
         self.texts += other.texts;
         add(&mut self.shapes, &other.shapes);
         add(&mut self.drawings, &other.drawings);
+        add(&mut self.asked, &other.asked);
         add(&mut self.service, &other.service);
         add(&mut self.factored, &other.factored);
         add(&mut self.bits, &other.bits);
@@ -162,6 +169,10 @@ impl fmt::Display for Tally {
                     named(&SHAPES, &self.shapes),
                     refusals(&self.drawings)
                 ),
+            ),
+            (
+                "calls of has_failed",
+                named(&["false", "true"], &self.asked),
             ),
             ("service block, in walls", named(&BLOCKS, &self.service)),
             ("factored block, in walls", named(&BLOCKS, &self.factored)),

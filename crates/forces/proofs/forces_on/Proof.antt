@@ -1,6 +1,6 @@
 -- `forces::forces_on` meets its contract. What is worked is a wall that fits with its loads.
 use mathlib.Core.Path.{_≡_, sym, _∙_}
-use mathlib.Core.Bool.{true, false}
+use mathlib.Core.Bool.{true}
 use borrow.Author.Needs.{needs}
 use borrow.Author.Tests.{not-true, not-false}
 use Rattle.rules.specs.Beyond.{fits, forcesOf}
@@ -25,5 +25,4 @@ unfolding forcesOf
 returns-2 c = rw (fit (c .before)) (c .worked .ensures)
 
 pub forces-on-spec : {M : Type 1} → statement M
-forces-on-spec =
-    tie.close (tie.spec (λ c κs. search needs) (λ c κs. search needs) (λ c κs. search needs) returns (λ c κs. rw (fit c) tt) returns-2)
+forces-on-spec = tie.close (tie.spec (λ c κs. search needs) (λ c κs. search needs) (λ c κs. search needs) returns (λ c κs. rw (fit c) tt) returns-2)

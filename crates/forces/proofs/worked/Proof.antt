@@ -34,6 +34,9 @@ at-K0 c = let f = fitted c in wall-summable _ _ f _ (wall-within _ (f .wall-fits
 abbrev begin : (c : tie.After-of-wall2) → tie.Start
 begin c = c .before .before .before .before .before
 
+abbrev tables : tie.After-column-sum → tie.After-of-wall2
+tables c = c .before .before .before
+
 eight : (c : tie.After-of-wall2) → length (begin c .args .loads) ≡ mostLoadsOnWall
 eight c = begin c .good .1 .0 .1 .0 .1
 
@@ -75,14 +78,14 @@ lasting-is c =
 sub-held : tie.Need-sub-held
 sub-held c =
     let d = c .before .before in
-    let f = fitted (begin (d .before .before .before)) in
+    let f = fitted (begin (tables d)) in
     rw (lasting-is d) (fits-abs _ (omega (arith, pos-<ℤ .0 (rw (nonneg-abs (lasting-nonneg _ _ f)) at (lasting-below _ _ f)))))
 
 held-requires : tie.Need-held-requires
 held-requires c κs =
     let told = c .before in
     let d = told .before .before in
-    let f = fitted (begin (d .before .before .before)) in
+    let f = fitted (begin (tables d)) in
     (f .wall-fits, rw (toZ-ofZ w64 _ (sub-held told), lasting-is d) (lasting-below _ _ f))
 
 returns : tie.Need-returns
@@ -93,28 +96,13 @@ returns c =
     let second = sums .before in
     let first = second .before in
     let H = toZ-ofZ w64 (first .totals-by .result .H) (search needs) in
-    rw (
-      c .stem-action .ensures,
-      c .before .held .ensures,
-      toZ-ofZ w64 _ (sub-held told) ∙ lasting-is sums,
-      H,
-      service-is first,
-      factored-is second,
-    )
+    cc (toZ-ofZ w64 _ (sub-held told) ∙ lasting-is sums, H, service-is first, factored-is second)
 
 pub worked-spec : {M : Type 1} → statement M
 worked-spec =
-    tie.close
-    (tie.spec
-    (λ c κs. search needs)
-    (λ c κs. search needs)
-    (λ c κs. let f = fitted (c .before .before) in (c .before .before .pre, omega (arith, wall-within _ (f .wall-fits))))
-    (λ c κs. search needs)
+    tie.close (tie.spec (λ c κs. search needs) (λ c κs. search needs)
+    (λ c κs. let f = fitted (c .before .before) in (c .before .before .pre, omega (arith, wall-within _ (f .wall-fits)))) (λ c κs. search needs)
     (λ c κs. let start = c .before .before .before .before in (start .pre, omega (arith, wall-within _ (fitted start .wall-fits))))
-    (λ c κs. (active-small c, all-light tt))
-    (λ c κs. (rest-small (c .before), all-light tt))
-    (λ c κs. (omega arith, active-small (c .before .before), light tt))
-    sub-held
-    held-requires
-    (λ c κs. let d = c .before .before .before .before .before .before .before in (begin d .pre, sorts-are d))
-    returns)
+    (λ c κs. (active-small c, all-light tt)) (λ c κs. (rest-small (c .before), all-light tt))
+    (λ c κs. (omega arith, active-small (c .before .before), light tt)) sub-held held-requires
+    (λ c κs. let d = tables (c .before .before .before .before) in (begin d .pre, sorts-are d)) returns)

@@ -26,11 +26,14 @@ loop-again c =
     let start = c .before .before .before .before in
     let loop = c .before .before .loop in
     let there : loop .i < length (start .args .t2) = omega (arith, start .good .1 .0 .1 .0 .1) in
-    one-more [] (loop .inv) (c .before .loop-test .taken) (c .load-numbered .ensures ∙ sym (mapped (loadNumbered (start .args .file .now)) (start .args .t2) (loop .i) [] 0 there))
+    one-more [] (loop .inv) (omega arith) (c .load-numbered .ensures ∙ sym (mapped (loadNumbered (start .args .file .now)) (start .args .t2) (loop .i) [] 0 there))
+
+returns : tie.Need-returns Inv-loop μ-loop
+returns c = all-filled (c .before .loop .inv) (omega arith)
 
 pub loads-at-spec : {M : Type 1} → statement M
 loads-at-spec =
     tie.close
     (tie.spec
     Inv-loop μ-loop loop-holds (λ c. omega arith) (λ c. omega arith) (λ c κs. tt) (λ c. omega arith) (λ c. omega arith) (λ c. omega arith)
-    (λ c. omega arith) loop-again (λ c. all-filled (c .before .loop .inv) (c .loop-test .left)))
+    (λ c. omega arith) loop-again returns)

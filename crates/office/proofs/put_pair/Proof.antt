@@ -4,17 +4,8 @@ use Rattle.rules.proofs.Putting.{no-text, then-byte}
 use Rattle.office.proofs.put_pair.Statement.{statement}
 use Rattle.office.proofs.put_pair.Tie as tie
 
-slice-write-out : tie.Need-slice-write-out
-slice-write-out c = search needs
-
-slice-write-out-2 : tie.Need-slice-write-out-2
-slice-write-out-2 c = search needs
-
-same-length : tie.Need-same-length
-same-length c = search needs
-
 returns : tie.Need-returns
 returns c = then-byte _ (then-byte _ (no-text (c .args .out .now)) (search needs)) (search needs) .holds
 
 pub put-pair-spec : {M : Type 1} → statement M
-put-pair-spec = tie.close (tie.spec slice-write-out slice-write-out-2 same-length returns)
+put-pair-spec = tie.close (tie.spec (λ c. search needs) (λ c. search needs) (λ c. search needs) returns)

@@ -10,4 +10,5 @@ unfolding baseLength
 returns c = omega arith
 
 pub base-length-spec : {M : Type 1} → statement M
-base-length-spec = tie.close (tie.spec (λ c κs. search needs) (λ c κs. search needs) (λ c. search needs) (λ c κs. search needs) (λ c. search needs) returns)
+base-length-spec =
+    tie.close (tie.spec (λ c κs. search needs) (λ c κs. search needs) (λ c. search needs) (λ c κs. search needs) (λ c. search needs) returns)

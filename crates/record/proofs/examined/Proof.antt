@@ -1,12 +1,9 @@
 -- `record::examined` meets its contract. The wall is examined by itself, and then load after load.
 use mathlib.Core.Path.{_≡_, sym, _∙_}
-use mathlib.Core.Bool.{Bool, true, false}
-use Prim.Native.Nat.{ℕ, _<_}
 use native.Mathlib.Omega.{arith}
 use borrow.Author.Needs.{needs}
 use borrow.Author.Tests.{not-true, not-false, lt-ltb, le-ltb}
-use Rattle.rules.specs.declared.Answer.{Answer}
-use Rattle.rules.specs.Answered.{isWorked, wallAnswer, _orElse_}
+use Rattle.rules.specs.Answered.{_orElse_}
 use Rattle.rules.specs.Beyond.{examined, firstUnfit}
 use Rattle.rules.proofs.Examined.{refusedLoad, examined-is}
 use Rattle.record.proofs.examined.Statement.{statement}

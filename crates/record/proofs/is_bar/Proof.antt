@@ -16,9 +16,6 @@ Inv-loop n i₀ i = (i ≤ length bars) × (among n bars ≡ among n (drop i bar
 abbrev μ-loop : tie.MeasureT-loop
 μ-loop n i₀ i = length bars - i
 
-loop-holds : tie.Need-loop-holds Inv-loop μ-loop
-loop-holds c = (omega arith, refl)
-
 returns : tie.Need-returns Inv-loop μ-loop
 unfolding among
 returns c =
@@ -39,15 +36,5 @@ returns-2 c =
 
 pub is-bar-spec : {M : Type 1} → statement M
 is-bar-spec =
-    tie.close
-    (tie.spec
-    Inv-loop
-    μ-loop
-    loop-holds
-    (λ c. omega arith)
-    (λ c. omega arith)
-    returns
-    (λ c. omega arith)
-    (λ c. omega arith)
-    loop-again
-    returns-2)
+    tie.close (tie.spec Inv-loop μ-loop (λ c. (omega arith, refl)) (λ c. omega arith) (λ c. omega arith) returns (λ c. omega arith) (λ c. omega arith)
+    loop-again returns-2)

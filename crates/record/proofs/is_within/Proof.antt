@@ -5,9 +5,6 @@ use Rattle.rules.specs.JobFile.{within}
 use Rattle.record.proofs.is_within.Statement.{statement}
 use Rattle.record.proofs.is_within.Tie as tie
 
-enum-told : tie.Need-enum-told
-enum-told c = search needs
-
 returns : tie.Need-returns
 unfolding within
 returns c wall e = rw (c .before .before .range .given .1, le-leb _ _ (c .if1 .taken))
@@ -26,13 +23,4 @@ returns-4 c wall e = rw (c .before .enum-told2 .given .1) (c .is-bar .ensures)
 
 pub is-within-spec : {M : Type 1} → statement M
 is-within-spec =
-    tie.close
-    (tie.spec
-    (λ c. search needs)
-    enum-told
-    (λ c. search needs)
-    (λ c κs. search needs)
-    returns
-    returns-2
-    returns-3
-    returns-4)
+    tie.close (tie.spec (λ c. search needs) (λ c. search needs) (λ c. search needs) (λ c κs. search needs) returns returns-2 returns-3 returns-4)

@@ -1,21 +1,9 @@
 -- `record::load_fits` meets its contract. Each answer follows from the tests that led to it.
-use mathlib.Core.Path.{_≡_, sym}
-use mathlib.Core.Bool.{Bool, true, false, _&&_}
 use borrow.Author.Needs.{needs}
 use borrow.Author.Tests.{le-leb, lt-leb}
 use Rattle.rules.specs.JobFile.{loadFits}
 use Rattle.record.proofs.load_fits.Statement.{statement}
 use Rattle.record.proofs.load_fits.Tie as tie
-
--- what is left of the four tests once some are known
-last-one : (a b c d : Bool) → a ≡ true → b ≡ true → c ≡ true → (a && b && c && d) ≡ d
-last-one a b c d e f g = rw (e, f, g)
-
-second-fails : (a b c d : Bool) → a ≡ true → b ≡ false → (a && b && c && d) ≡ false
-second-fails a b c d e f = rw (e, f)
-
-third-fails : (a b c d : Bool) → a ≡ true → b ≡ true → c ≡ false → (a && b && c && d) ≡ c
-third-fails a b c d e f g = rw (e, f, g)
 
 returns : tie.Need-returns
 unfolding loadFits
@@ -25,31 +13,21 @@ returns-2 : tie.Need-returns-2
 unfolding loadFits
 returns-2 c =
     let beyond = lt-leb _ _ (rw (c .before .reach-of .ensures) at (c .if2 .taken)) in
-    sym (second-fails _ _ _ _ (le-leb _ _ (c .before .before .if1 .left)) beyond)
+    simp (le-leb _ _ (c .before .before .if1 .left), beyond)
 
 returns-3 : tie.Need-returns-3
 unfolding loadFits
 returns-3 c =
     let inside = le-leb _ _ (rw (c .before .before .reach-of .ensures) at (c .before .if2 .left)) in
-    sym (last-one _ _ _ _ (le-leb _ _ (c .before .before .before .if1 .left)) inside (le-leb _ _ (c .if3 .taken)))
+    rw (le-leb _ _ (c .before .before .before .if1 .left), inside, le-leb _ _ (c .if3 .taken))
 
 returns-4 : tie.Need-returns-4
 unfolding loadFits
 returns-4 c =
     let inside = le-leb _ _ (rw (c .before .before .reach-of .ensures) at (c .before .if2 .left)) in
-    sym (third-fails _ _ _ _ (le-leb _ _ (c .before .before .before .if1 .left)) inside (lt-leb _ _ (c .if3 .left)))
+    rw (le-leb _ _ (c .before .before .before .if1 .left), inside, lt-leb _ _ (c .if3 .left))
 
 pub load-fits-spec : {M : Type 1} → statement M
 load-fits-spec =
-    tie.close
-    (tie.spec
-    (λ c. search needs)
-    returns
-    (λ c κs. search needs)
-    (λ c. search needs)
-    (λ c. search needs)
-    returns-2
-    (λ c. search needs)
-    (λ c. search needs)
-    returns-3
-    returns-4)
+    tie.close (tie.spec (λ c. search needs) returns (λ c κs. search needs) (λ c. search needs) (λ c. search needs) returns-2 (λ c. search needs)
+    (λ c. search needs) returns-3 returns-4)

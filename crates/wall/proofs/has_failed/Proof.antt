@@ -6,18 +6,9 @@ use Rattle.rules.specs.SheetLine.{isSet}
 use Rattle.wall.proofs.has_failed.Statement.{statement}
 use Rattle.wall.proofs.has_failed.Tie as tie
 
-shift-of-requires : tie.Need-shift-of-requires
-shift-of-requires c κs = search needs
-
-cast-result : tie.Need-cast-result
-cast-result c = search needs
-
-shr-result : tie.Need-shr-result
-shr-result c = search needs
-
 returns : tie.Need-returns
 unfolding isSet
 returns c = rw (← c .shift-of .ensures .0, and-mask (c .before .args .failures / 2 ^ c .shift-of .result) 1)
 
 pub has-failed-spec : {M : Type 1} → statement M
-has-failed-spec = tie.close (tie.spec shift-of-requires cast-result shr-result returns)
+has-failed-spec = tie.close (tie.spec (λ c κs. search needs) (λ c. search needs) (λ c. search needs) returns)

@@ -4,7 +4,8 @@ use native.Mathlib.Omega.{arith}
 use borrow.Author.Needs.{needs}
 use Rattle.whole.proofs.Integer.{pos-≤ℤ, pos-<ℤ}
 use Rattle.rules.specs.declared.Kind.the-variants.{Full, FromToe, FromHeel}
-use Rattle.bearing.proofs.Bounds.{bounds}
+use Rattle.bearing.specs.Within.{Within}
+use Rattle.bearing.proofs.Bounds.{Bounds, bounds}
 use Rattle.bearing.proofs.Cases.{none, made}
 use Rattle.bearing.proofs.block.block_above_zero.Statement.{statement}
 use Rattle.bearing.proofs.block.block_above_zero.Tie as tie
@@ -12,49 +13,21 @@ use Rattle.bearing.proofs.block.block_above_zero.Tie as tie
 returns : tie.Need-returns
 returns c = c .no-block .ensures ∙ sym (none _ _ _ (c .before .if1 .taken))
 
-mul-low : tie.Need-mul-low
-mul-low c = record { fits = omega (arith, bounds (c .before .pre (omega arith)), c .before .pre (omega arith)) }
-
-mul-low-2 : tie.Need-mul-low-2
-mul-low-2 c = record { fits = omega (arith, bounds (c .before .pre (omega arith)), c .before .pre (omega arith)) }
-
-mul-high : tie.Need-mul-high
-mul-high c = record { fits = omega (arith, bounds (c .before .pre (omega arith)), c .before .pre (omega arith)) }
-
-mul-high-2 : tie.Need-mul-high-2
-mul-high-2 c = record { fits = omega (arith, bounds (c .before .pre (omega arith)), c .before .pre (omega arith)) }
-
-from-toe-requires : tie.Need-from-toe-requires
-from-toe-requires c κs = c .before .before .pre (omega arith)
+-- where M6 is above 0, R, M6 and l are within bounds, and so are their products
+room : (c : tie.Else1) → let a = c .before .args in Within (a .r) (a .m) (a .l) × Bounds (a .r) (a .m) (a .l)
+room c = let w = c .before .pre (omega arith) in (w, bounds w)
 
 returns-2 : tie.Need-returns-2
-returns-2 c = c .from-toe .ensures ∙ sym (made _ _ _ (c .before .before .before .pre (omega arith)) FromToe (pos-<ℤ .1 (omega arith), pos-<ℤ .1 (omega arith)))
-
-full-requires : tie.Need-full-requires
-full-requires c κs = (c .before .before .before .pre (omega arith), omega arith, omega arith)
+returns-2 c = c .from-toe .ensures ∙ sym (made _ _ _ (room (c .before .before) .0) FromToe (pos-<ℤ .1 (omega arith), pos-<ℤ .1 (omega arith)))
 
 returns-3 : tie.Need-returns-3
-returns-3 c = c .full .ensures ∙ sym (made _ _ _ (c .before .before .before .before .pre (omega arith)) Full (pos-≤ℤ .1 (omega arith), pos-≤ℤ .1 (omega arith)))
-
-from-heel-requires : tie.Need-from-heel-requires
-from-heel-requires c κs = c .before .before .before .pre (omega arith)
+returns-3 c = c .full .ensures ∙ sym (made _ _ _ (room (c .before .before .before) .0) Full (pos-≤ℤ .1 (omega arith), pos-≤ℤ .1 (omega arith)))
 
 returns-4 : tie.Need-returns-4
-returns-4 c = c .from-heel .ensures ∙ sym (made _ _ _ (c .before .before .before .before .pre (omega arith)) FromHeel (pos-<ℤ .1 (omega arith)))
+returns-4 c = c .from-heel .ensures ∙ sym (made _ _ _ (room (c .before .before .before) .0) FromHeel (pos-<ℤ .1 (omega arith)))
 
 pub block-above-zero-spec : {M : Type 1} → statement M
 block-above-zero-spec =
-    tie.close
-    (tie.spec
-    (λ c κs. search needs)
-    returns
-    mul-low
-    mul-low-2
-    mul-high
-    mul-high-2
-    from-toe-requires
-    returns-2
-    full-requires
-    returns-3
-    from-heel-requires
-    returns-4)
+    tie.close (tie.spec (λ c κs. search needs) returns (λ c. record { fits = omega (arith, room c) }) (λ c. record { fits = omega (arith, room c) })
+    (λ c. record { fits = omega (arith, room c) }) (λ c. record { fits = omega (arith, room c) }) (λ c κs. room (c .before) .0) returns-2
+    (λ c κs. (room (c .before .before) .0, omega arith, omega arith)) returns-3 (λ c κs. room (c .before .before) .0) returns-4)

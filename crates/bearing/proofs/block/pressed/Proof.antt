@@ -7,12 +7,6 @@ use Rattle.bearing.proofs.Reports.{is-given, not-given}
 use Rattle.bearing.proofs.block.pressed.Statement.{statement}
 use Rattle.bearing.proofs.block.pressed.Tie as tie
 
-report-requires : tie.Need-report-requires
-report-requires c κs = c .pre .toe
-
-report-requires-2 : tie.Need-report-requires-2
-report-requires-2 c κs = c .before .pre .heel
-
 returns : tie.Need-returns
 returns c =
     let d = c .before .before in
@@ -26,4 +20,5 @@ returns-2 c =
     is-given _ _ _ _ (d .before .before .report .ensures) (d .before .report2 .ensures) (rw (d .greater .ensures) at low)
 
 pub pressed-spec : {M : Type 1} → statement M
-pressed-spec = tie.close (tie.spec report-requires report-requires-2 (λ c κs. search needs) (λ c κs. search needs) returns returns-2)
+pressed-spec =
+    tie.close (tie.spec (λ c κs. c .pre .toe) (λ c κs. c .before .pre .heel) (λ c κs. search needs) (λ c κs. search needs) returns returns-2)

@@ -20,6 +20,4 @@ returns c =
     rw (c .rounded-up .ensures, c .before .above-zero2 .ensures, first .above-zero .ensures, over, under)
 
 pub report-spec : {M : Type 1} → statement M
-report-spec =
-    tie.close
-    (tie.spec (λ c κs. search needs) mul-rounded-up (λ c κs. search needs) (λ c κs. search needs) returns)
+report-spec = tie.close (tie.spec (λ c κs. search needs) mul-rounded-up (λ c κs. search needs) (λ c κs. search needs) returns)

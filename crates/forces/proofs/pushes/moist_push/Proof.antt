@@ -6,12 +6,9 @@ use Rattle.rules.proofs.Accepted.{wall-within}
 use Rattle.forces.proofs.pushes.moist_push.Statement.{statement}
 use Rattle.forces.proofs.pushes.moist_push.Tie as tie
 
-push-requires : tie.Need-push-requires
-push-requires c κs = omega (arith, wall-within _ (c .before .pre .0))
-
 returns : tie.Need-returns
 unfolding moistPush
-returns c = rw (c .before .field .ensures .0) at (c .push .ensures)
+returns c = cc
 
 pub moist-push-spec : {M : Type 1} → statement M
-moist-push-spec = tie.close (tie.spec (λ c. search needs) (λ c κs. search needs) push-requires returns)
+moist-push-spec = tie.close (tie.spec (λ c. search needs) (λ c κs. search needs) (λ c κs. omega (arith, wall-within _ (c .before .pre .0))) returns)

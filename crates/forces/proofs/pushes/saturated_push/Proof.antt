@@ -6,15 +6,11 @@ use Rattle.rules.proofs.Accepted.{wall-within}
 use Rattle.forces.proofs.pushes.saturated_push.Statement.{statement}
 use Rattle.forces.proofs.pushes.saturated_push.Tie as tie
 
-sub-buoyant : tie.Need-sub-buoyant
-sub-buoyant c = omega (arith, wall-within _ (c .before .pre .0))
-
-push-requires : tie.Need-push-requires
-push-requires c κs = omega (arith, wall-within _ (c .before .pre .0))
-
 returns : tie.Need-returns
 unfolding saturatedPush
-returns c = rw (c .before .field .ensures .0) at (c .push .ensures)
+returns c = cc
 
 pub saturated-push-spec : {M : Type 1} → statement M
-saturated-push-spec = tie.close (tie.spec (λ c κs. search needs) sub-buoyant push-requires returns)
+saturated-push-spec =
+    tie.close (tie.spec (λ c κs. search needs) (λ c. omega (arith, wall-within _ (c .before .pre .0)))
+    (λ c κs. omega (arith, wall-within _ (c .before .pre .0))) returns)

@@ -7,16 +7,11 @@ use Rattle.whole.proofs.Factors.{two-fit, three-fit}
 use Rattle.forces.proofs.pushes.surcharge_push.Statement.{statement}
 use Rattle.forces.proofs.pushes.surcharge_push.Tie as tie
 
-mul-push-of : tie.Need-mul-push-of
-mul-push-of c = two-fit (omega (arith, wall-within _ (c .before .pre .0)))
-
-mul-push-of-2 : tie.Need-mul-push-of-2
-mul-push-of-2 c = three-fit (omega (arith, wall-within _ (c .before .pre .0)))
-
 returns : tie.Need-returns
 unfolding surchargePush
-returns c = rw (c .before .field .ensures .0) at (c .push-of .ensures)
+returns c = cc
 
 pub surcharge-push-spec : {M : Type 1} → statement M
 surcharge-push-spec =
-    tie.close (tie.spec (λ c κs. search needs) mul-push-of mul-push-of-2 (λ c κs. search needs) returns)
+    tie.close (tie.spec (λ c κs. search needs) (λ c. two-fit (omega (arith, wall-within _ (c .before .pre .0))))
+    (λ c. three-fit (omega (arith, wall-within _ (c .before .pre .0)))) (λ c κs. search needs) returns)

@@ -7,15 +7,10 @@ use Rattle.whole.proofs.Factors.{two-fit}
 use Rattle.forces.proofs.pushes.water_push.Statement.{statement}
 use Rattle.forces.proofs.pushes.water_push.Tie as tie
 
-mul-push-of : tie.Need-mul-push-of
-mul-push-of c = two-fit (omega arith)
-
-mul-push-of-2 : tie.Need-mul-push-of-2
-mul-push-of-2 c = two-fit (omega (arith, mul-le-mul (c .pre) (c .pre)))
-
 returns : tie.Need-returns
 unfolding waterPush
 returns c = c .push-of .ensures
 
 pub water-push-spec : {M : Type 1} → statement M
-water-push-spec = tie.close (tie.spec mul-push-of mul-push-of-2 (λ c κs. search needs) returns)
+water-push-spec =
+    tie.close (tie.spec (λ c. two-fit (omega arith)) (λ c. two-fit (omega (arith, mul-le-mul (c .pre) (c .pre)))) (λ c κs. search needs) returns)

@@ -6,8 +6,5 @@ use borrow.Author.Needs.{needs}
 use Rattle.forces.proofs.rows.signed.Statement.{statement}
 use Rattle.forces.proofs.rows.signed.Tie as tie
 
-returns : tie.Need-returns
-returns c = toZ-pos w64 (c .args .n) (omega arith)
-
 pub signed-spec : {M : Type 1} → statement M
-signed-spec = tie.close (tie.spec (λ c. search needs) returns)
+signed-spec = tie.close (tie.spec (λ c. search needs) (λ c. toZ-pos w64 (c .args .n) (omega arith)))

@@ -25,6 +25,4 @@ unfolding frictionUnder
 returns c = rw (lasting-is (c .before), c .before .before .field .ensures .0) at (c .rounded-down .ensures)
 
 pub friction-under-spec : {M : Type 1} → statement M
-friction-under-spec =
-    tie.close
-    (tie.spec (λ c κs. search needs) (λ c κs. search needs) mul-rounded-down (λ c κs. search needs) returns)
+friction-under-spec = tie.close (tie.spec (λ c κs. search needs) (λ c κs. search needs) mul-rounded-down (λ c κs. search needs) returns)

@@ -51,13 +51,5 @@ returns-2 c =
 
 pub held-spec : {M : Type 1} → statement M
 held-spec =
-    tie.close
-    (tie.spec
-    (λ c κs. search needs)
-    (λ c κs. search needs)
-    add-holding
-    (λ c κs. search needs)
-    (λ c κs. search needs)
-    (λ c κs. search needs)
-    returns
-    returns-2)
+    tie.close (tie.spec (λ c κs. search needs) (λ c κs. search needs) add-holding (λ c κs. search needs) (λ c κs. search needs) (λ c κs. search needs)
+    returns returns-2)

@@ -16,9 +16,6 @@ Inv-loop wall loads on₀ i₀ on i = Filled (map (onStem (baseThickness wall)) 
 abbrev μ-loop : tie.MeasureT-loop
 μ-loop wall loads on₀ i₀ on i = mostLoadsOnWall - i
 
-loop-holds : tie.Need-loop-holds Inv-loop μ-loop
-loop-holds c = none-filled (rw length-map (c .good .1 .0 .1 .0 .1)) refl
-
 loop-again : tie.Need-loop-again Inv-loop μ-loop
 loop-again c =
     let d = c .before .before .before in
@@ -26,23 +23,8 @@ loop-again c =
     let its = onStem (baseThickness (start .t1)) in
     one-more (its []) (d .loop .inv) (omega arith) (c .on-stem .ensures ∙ sym (List·getD-map its (start .t2) _ []))
 
-returns : tie.Need-returns Inv-loop μ-loop
-returns c = all-filled (c .before .loop .inv) (omega arith)
-
 pub loads-on-stem-spec : {M : Type 1} → statement M
 loads-on-stem-spec =
-    tie.close
-    (tie.spec
-    Inv-loop
-    μ-loop
-    loop-holds
-    (λ c. omega arith)
-    (λ c. omega arith)
-    (λ c. omega arith)
-    (λ c κs. tt)
-    (λ c. omega arith)
-    (λ c. omega arith)
-    (λ c. omega arith)
-    (λ c. omega arith)
-    loop-again
-    returns)
+    tie.close (tie.spec Inv-loop μ-loop (λ c. none-filled (rw length-map (c .good .1 .0 .1 .0 .1)) refl) (λ c. omega arith) (λ c. omega arith)
+    (λ c. omega arith) (λ c κs. tt) (λ c. omega arith) (λ c. omega arith) (λ c. omega arith) (λ c. omega arith) loop-again
+    (λ c. all-filled (c .before .loop .inv) (omega arith)))

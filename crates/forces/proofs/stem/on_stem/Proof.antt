@@ -32,14 +32,5 @@ returns-2 c = rw (sym (c .before .reaches-stem .ensures) ∙ not-false _ (c .if1
 
 pub on-stem-spec : {M : Type 1} → statement M
 on-stem-spec =
-    tie.close
-    (tie.spec
-    (λ c κs. search needs)
-    (λ c. search needs)
-    returns
-    (λ c. search needs)
-    (λ c. search needs)
-    sub-t16
-    (λ c. search needs)
-    (λ c. search needs)
-    returns-2)
+    tie.close (tie.spec (λ c κs. search needs) (λ c. search needs) returns (λ c. search needs) (λ c. search needs) sub-t16 (λ c. search needs)
+    (λ c. search needs) returns-2)

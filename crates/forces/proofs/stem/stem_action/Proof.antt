@@ -37,27 +37,15 @@ summed c column e ok f =
 returns : tie.Need-returns
 unfolding stemAction
 returns c =
-    let above = c .before .before .before in
-    let second = above .before in
+    let second = c .before .before .before .before in
     let first = second .before in
-    rw (
-      c .rounded-up2 .ensures,
-      c .before .above-zero2 .ensures,
-      summed (first .before) moment (second .column-sum2 .ensures) (second .column-sum2 .ok) refl,
-      c .before .before .rounded-up .ensures,
-      above .above-zero .ensures,
+    cc (
       summed (first .before) horizontal (first .column-sum .ensures) (first .column-sum .ok) refl,
+      summed (first .before) moment (second .column-sum2 .ensures) (second .column-sum2 .ok) refl,
     )
 
 pub stem-action-spec : {M : Type 1} → statement M
 stem-action-spec =
-    tie.close
-    (tie.spec
-    (λ c κs. c .pre .0)
-    (λ c κs. (omega arith, table-small c, light tt))
-    (λ c κs. (omega arith, table-small (c .before), light tt))
-    (λ c κs. search needs)
-    (λ c κs. search needs)
-    (λ c κs. search needs)
-    (λ c κs. search needs)
-    returns)
+    tie.close (tie.spec (λ c κs. c .pre .0) (λ c κs. (omega arith, table-small c, light tt))
+    (λ c κs. (omega arith, table-small (c .before), light tt)) (λ c κs. search needs) (λ c κs. search needs) (λ c κs. search needs)
+    (λ c κs. search needs) returns)

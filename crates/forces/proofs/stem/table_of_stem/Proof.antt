@@ -26,25 +26,9 @@ filled-requires c κs = rw (c .loads-on-stem .ensures) (loads-small _ _ (stem-fi
 
 returns : tie.Need-returns
 unfolding stemInPlace
-returns c =
-    let d = c .before .before in
-    rw (
-      c .filled .ensures,
-      c .before .loads-on-stem .ensures,
-      d .push-rows .ensures,
-      d .before .saturated-height .ensures,
-      d .before .before .field2 .ensures .0,
-      d .before .before .before .field .ensures .0,
-    ) (in-place noWeights (pushRows _ _ _ _) _)
+returns c = cc (in-place noWeights (pushRows _ _ _ _) _)
 
 pub table-of-stem-spec : {M : Type 1} → statement M
 table-of-stem-spec =
-    tie.close
-    (tie.spec
-    (λ c κs. search needs)
-    (λ c κs. search needs)
-    (λ c κs. search needs)
-    push-rows-requires
-    (λ c κs. search needs)
-    filled-requires
+    tie.close (tie.spec (λ c κs. search needs) (λ c κs. search needs) (λ c κs. search needs) push-rows-requires (λ c κs. search needs) filled-requires
     returns)

@@ -38,32 +38,27 @@ module _ {table : List (List ℤ)} {sorts : List ℕ} {weights : List ℤ} {colu
   abbrev summed : ℤ
   summed = sumTo (weighted table sorts weights column) i
 
-  light-weight : natAbs weight ≤ 16
-  light-weight = passed .light .at-most (getD sorts i 0)
-
-  small-cell : natAbs cell ≤ 100000000000
-  small-cell = passed .small .cells i column
-
-  small-product : natAbs (weight *ℤ cell) ≤ 1600000000000
-  small-product = abs-weighted weight cell light-weight small-cell
-
-  small-sum : natAbs summed ≤ 26 * 1600000000000
-  small-sum = omega (arith, sum-within (passed .small) (passed .light) column i)
+  -- none of these is great, and nor is the product
+  sizes : (natAbs weight ≤ 16) × (natAbs cell ≤ 100000000000) × (natAbs (weight *ℤ cell) ≤ 1600000000000) × (natAbs summed ≤ 26 * 1600000000000)
+  sizes =
+      let light = passed .light .at-most (getD sorts i 0) in
+      let small = passed .small .cells i column in
+      (light, small, abs-weighted weight cell light small, omega (arith, sum-within (passed .small) (passed .light) column i))
 
   product : read weight *ℤ read cell ≡ weight *ℤ cell
-  product = rw (back weight (omega (arith, light-weight)), back cell (omega (arith, small-cell)))
+  product = rw (back weight (omega (arith, sizes)), back cell (omega (arith, sizes)))
 
   product-fits : SFits w64 (read weight *ℤ read cell)
-  product-fits = rw product (fits-abs (weight *ℤ cell) (omega (arith, small-product)))
+  product-fits = rw product (fits-abs (weight *ℤ cell) (omega (arith, sizes)))
 
   sum-back : toZ w64 sum ≡ summed
-  sum-back = rw (passed .same) (back summed (omega (arith, small-sum)))
+  sum-back = rw (passed .same) (back summed (omega (arith, sizes)))
 
   next : toZ w64 sum +ℤ read (read weight *ℤ read cell) ≡ summed +ℤ weight *ℤ cell
-  next = rw (sum-back, product, back (weight *ℤ cell) (omega (arith, small-product)))
+  next = rw (sum-back, product, back (weight *ℤ cell) (omega (arith, sizes)))
 
   next-fits : SFits w64 (toZ w64 sum +ℤ read (read weight *ℤ read cell))
-  next-fits = rw next (fits-abs (summed +ℤ weight *ℤ cell) (omega (arith, abs-add summed (weight *ℤ cell), small-sum, small-product)))
+  next-fits = rw next (fits-abs (summed +ℤ weight *ℤ cell) (omega (arith, abs-add summed (weight *ℤ cell), sizes)))
 
   all-summed : components ≤ i → toZ w64 sum ≡ weightedSum table sorts weights column
   unfolding weightedSum
@@ -79,45 +74,16 @@ loop-holds : tie.Need-loop-holds Inv-loop μ-loop
 unfolding sumTo
 loop-holds c = record { within = omega arith; small = c .pre .1; light = c .pre .2; same = refl }
 
-mul-sum-2 : tie.Need-mul-sum-2 Inv-loop μ-loop
-mul-sum-2 c = omega (arith, c .before .loop .inv .small .sorted (c .before .loop .i))
-
-array-copy-out-sum : tie.Need-array-copy-out-sum Inv-loop μ-loop
-array-copy-out-sum c = omega (arith, c .before .loop .inv .small .sorted (c .before .loop .i))
-
-mul-sum-5 : tie.Need-mul-sum-5 Inv-loop μ-loop
-mul-sum-5 c = product-fits (c .before .before .before .loop .inv)
-
-add-sum : tie.Need-add-sum Inv-loop μ-loop
-add-sum c = next-fits (c .before .before .before .loop .inv)
-
 loop-again : tie.Need-loop-again Inv-loop μ-loop
 unfolding sumTo
 loop-again c =
     let passed = c .before .before .before .loop .inv in
     record { within = omega arith; small = passed .small; light = passed .light; same = rw add-one (ap (ofZ w64) (next passed)) }
 
-returns : tie.Need-returns Inv-loop μ-loop
-returns c = all-summed (c .before .loop .inv) (omega arith)
-
 pub column-sum-spec : {M : Type 1} → statement M
 column-sum-spec =
-    tie.close
-    (tie.spec
-    Inv-loop
-    μ-loop
-    loop-holds
-    (λ c. omega arith)
-    (λ c. omega arith)
-    mul-sum-2
-    array-copy-out-sum
-    (λ c. omega arith)
-    (λ c. omega arith)
-    (λ c. omega arith)
-    (λ c. omega arith)
-    mul-sum-5
-    add-sum
-    (λ c. omega arith)
-    (λ c. omega arith)
-    loop-again
-    returns)
+    tie.close (tie.spec Inv-loop μ-loop loop-holds (λ c. omega arith) (λ c. omega arith)
+    (λ c. omega (arith, c .before .loop .inv .small .sorted (c .before .loop .i)))
+    (λ c. omega (arith, c .before .loop .inv .small .sorted (c .before .loop .i))) (λ c. omega arith) (λ c. omega arith) (λ c. omega arith)
+    (λ c. omega arith) (λ c. product-fits (c .before .before .before .loop .inv)) (λ c. next-fits (c .before .before .before .loop .inv))
+    (λ c. omega arith) (λ c. omega arith) loop-again (λ c. all-summed (c .before .loop .inv) (omega arith)))

@@ -12,12 +12,6 @@ use Rattle.forces.proofs.table.load_row.Tie as tie
 light : (c : tie.Start) → getD (c .args .t1) (c .args .part) 0 ≤ 200000
 light c = c .pre .1 .numbers (c .args .part) (c .pre .0)
 
-down-requires : tie.Need-down-requires
-down-requires c κs = omega (arith, light (c .before .before .before))
-
-across-requires : tie.Need-across-requires
-across-requires c κs = omega (arith, light (c .before .before .before))
-
 returns : tie.Need-returns
 unfolding partRow isDown
 returns c =
@@ -32,16 +26,6 @@ returns-2 c =
 
 pub load-row-spec : {M : Type 1} → statement M
 load-row-spec =
-    tie.close
-    (tie.spec
-    (λ c. search needs)
-    (λ c. search needs)
-    (λ c κs. search needs)
-    (λ c. search needs)
-    (λ c κs. search needs)
-    (λ c. search needs)
-    (λ c. search needs)
-    down-requires
-    across-requires
-    returns
+    tie.close (tie.spec (λ c. search needs) (λ c. search needs) (λ c κs. search needs) (λ c. search needs) (λ c κs. search needs) (λ c. search needs)
+    (λ c. search needs) (λ c κs. omega (arith, light (c .before .before .before))) (λ c κs. omega (arith, light (c .before .before .before))) returns
     returns-2)

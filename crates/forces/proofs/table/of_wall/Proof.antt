@@ -17,26 +17,11 @@ push-rows-requires c κs =
     let w = wall-within _ (f .wall-fits) in
     (f .wall-fits, record { coefficient = omega arith; height = omega (arith, wall-height w); water = omega arith })
 
-weight-rows-requires : tie.Need-weight-rows-requires
-weight-rows-requires c κs = fitted (c .before .before .before) .wall-fits
-
-filled-requires : tie.Need-filled-requires
-filled-requires c κs = loads-small _ _ (fitted (c .before .before .before .before))
-
 returns : tie.Need-returns
 unfolding table
-returns c =
-    let d = c .before .before in
-    rw (c .filled .ensures, c .before .weight-rows .ensures, d .push-rows .ensures, d .before .field .ensures .0, d .before .before .wall-height .ensures)
-    (in-place (weightRows _) (pushRows _ _ _ _) _)
+returns c = cc (in-place (weightRows _) (pushRows _ _ _ _) _)
 
 pub of-wall-spec : {M : Type 1} → statement M
 of-wall-spec =
-    tie.close
-    (tie.spec
-    (λ c κs. search needs)
-    (λ c κs. search needs)
-    push-rows-requires
-    weight-rows-requires
-    filled-requires
-    returns)
+    tie.close (tie.spec (λ c κs. search needs) (λ c κs. search needs) push-rows-requires (λ c κs. fitted (c .before .before .before) .wall-fits)
+    (λ c κs. loads-small _ _ (fitted (c .before .before .before .before))) returns)

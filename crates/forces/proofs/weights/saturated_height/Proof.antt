@@ -6,8 +6,7 @@ use Rattle.forces.proofs.weights.saturated_height.Tie as tie
 
 returns : tie.Need-returns
 unfolding saturatedHeight
-returns c = rw (c .before .field2 .ensures .0, c .before .before .field .ensures .0) at (c .excess .ensures)
+returns c = cc
 
 pub saturated-height-spec : {M : Type 1} → statement M
-saturated-height-spec =
-    tie.close (tie.spec (λ c κs. search needs) (λ c κs. search needs) (λ c κs. search needs) returns)
+saturated-height-spec = tie.close (tie.spec (λ c κs. search needs) (λ c κs. search needs) (λ c κs. search needs) returns)

@@ -5,12 +5,5 @@ use Rattle.whole.proofs.Factors.{two-fit, three-fit}
 use Rattle.forces.proofs.weights.slab_weight.Statement.{statement}
 use Rattle.forces.proofs.weights.slab_weight.Tie as tie
 
-mul-rounded-nearest : tie.Need-mul-rounded-nearest
-mul-rounded-nearest c = two-fit (omega arith)
-
-mul-rounded-nearest-2 : tie.Need-mul-rounded-nearest-2
-mul-rounded-nearest-2 c = three-fit (omega arith)
-
 pub slab-weight-spec : {M : Type 1} → statement M
-slab-weight-spec =
-    tie.close (tie.spec mul-rounded-nearest mul-rounded-nearest-2 (λ c κs. search needs) (λ c. search needs))
+slab-weight-spec = tie.close (tie.spec (λ c. two-fit (omega arith)) (λ c. three-fit (omega arith)) (λ c κs. search needs) (λ c. search needs))

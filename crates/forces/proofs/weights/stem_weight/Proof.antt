@@ -6,16 +6,11 @@ use Rattle.rules.proofs.Accepted.{wall-within}
 use Rattle.forces.proofs.weights.stem_weight.Statement.{statement}
 use Rattle.forces.proofs.weights.stem_weight.Tie as tie
 
-slab-weight-requires : tie.Need-slab-weight-requires
-slab-weight-requires c κs = let w = wall-within _ (c .before .before .before .pre) in omega arith
-
 returns : tie.Need-returns
 unfolding stemWeight
-returns c =
-    let d = c .before in
-    rw (d .field3 .ensures .0, d .before .field2 .ensures .0, d .before .before .field .ensures .0) at (c .slab-weight .ensures)
+returns c = cc
 
 pub stem-weight-spec : {M : Type 1} → statement M
 stem-weight-spec =
-    tie.close
-    (tie.spec (λ c κs. search needs) (λ c κs. search needs) (λ c κs. search needs) slab-weight-requires returns)
+    tie.close (tie.spec (λ c κs. search needs) (λ c κs. search needs) (λ c κs. search needs)
+    (λ c κs. omega (arith, wall-within _ (c .before .before .before .pre))) returns)

@@ -7,14 +7,11 @@ use Rattle.whole.proofs.Factors.{two-fit}
 use Rattle.forces.proofs.weights.surcharge_weight.Statement.{statement}
 use Rattle.forces.proofs.weights.surcharge_weight.Tie as tie
 
-mul-rounded-nearest : tie.Need-mul-rounded-nearest
-mul-rounded-nearest c = two-fit (omega (arith, wall-within _ (c .before .before .pre)))
-
 returns : tie.Need-returns
 unfolding surchargeWeight
-returns c = rw (c .before .field2 .ensures .0, c .before .before .field .ensures .0) at (c .rounded-nearest .ensures)
+returns c = cc
 
 pub surcharge-weight-spec : {M : Type 1} → statement M
 surcharge-weight-spec =
-    tie.close
-    (tie.spec (λ c κs. search needs) (λ c κs. search needs) mul-rounded-nearest (λ c κs. search needs) returns)
+    tie.close (tie.spec (λ c κs. search needs) (λ c κs. search needs) (λ c. two-fit (omega (arith, wall-within _ (c .before .before .pre))))
+    (λ c κs. search needs) returns)

@@ -22,9 +22,12 @@ loop-again c =
     let inside = c .before .loop-test .taken in
     one-more 0 (c .before .before .loop .inv) inside (c .u32-at .ensures ∙ sym (number-at _ _ _ _ inside))
 
+returns : tie.Need-returns Inv-loop μ-loop
+returns c = all-filled (c .before .loop .inv) (c .loop-test .left)
+
 pub read-u32s-spec : {M : Type 1} → statement M
 read-u32s-spec =
     tie.close
     (tie.spec
     Inv-loop μ-loop loop-holds (λ c. omega arith) (λ c. omega arith) (λ c κs. tt) (λ c. omega arith) (λ c. omega arith) (λ c. omega arith)
-    (λ c. omega arith) loop-again (λ c. c .before .loop .inv .size) (λ c. all-filled (c .before .loop .inv) (c .loop-test .left)))
+    (λ c. omega arith) loop-again (λ c. c .before .loop .inv .size) returns)

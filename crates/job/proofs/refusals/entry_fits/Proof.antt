@@ -1,21 +1,15 @@
 -- `job::refusals::entry_fits` meets its contract. The walls are as many as the header says, and a load is judged by the lengths of its own.
-use mathlib.Core.Path.{_≡_, refl}
 use Prim.Native.Nat.{_-_, _<_}
 use native.Mathlib.Omega.{arith}
 use borrow.Author.Needs.{needs}
 use borrow.Author.Tests.{le-leb, lt-leb}
 use lib.ListN.{getD}
-use Rattle.rules.specs.JobFile.{Wall, Load, wallCount, wallAt, baseLength, wallHeight, reach, loadFits}
+use Rattle.rules.specs.JobFile.{wallCount, wallAt}
 use Rattle.rules.specs.Answered.{entryFits}
 use Rattle.rules.proofs.AcceptedFile.{walls-length, wall-at}
-use Rattle.job.specs.Lengths.{lengthsOf}
+use Rattle.job.proofs.Judging.{by-lengths}
 use Rattle.job.proofs.refusals.entry_fits.Statement.{statement}
 use Rattle.job.proofs.refusals.entry_fits.Tie as tie
-
--- a load fits a wall exactly where it fits the wall's lengths
-by-lengths : (wall : Wall) (load : Load) → loadFits (lengthsOf wall) load ≡ loadFits wall load
-unfolding lengthsOf baseLength wallHeight reach loadFits
-by-lengths wall load = refl
 
 returns : tie.Need-returns
 unfolding entryFits
@@ -28,15 +22,15 @@ returns-2 c = rw (walls-length, ← c .before .wall-count .ensures, le-leb _ _ (
 returns-3 : tie.Need-returns-3
 unfolding entryFits
 returns-3 c =
-    let d = c .before .before .before in
-    let start = d .before .before .before .before .args in
+    let tests = c .before .before .before in
+    let start = tests .before .before .before .before .args in
     let number = getD (start .t2) 0 0 in
     let there : number - 1 < wallCount (start .file .now) = omega arith in
     rw (
       walls-length,
-      ← d .before .wall-count .ensures,
-      le-leb _ _ (d .before .before .if1 .left),
-      le-leb _ _ (d .if2 .left),
+      ← tests .before .wall-count .ensures,
+      le-leb _ _ (tests .before .before .if1 .left),
+      le-leb _ _ (tests .if2 .left),
       wall-at (start .file .now) (number - 1) there,
       ← by-lengths (wallAt (start .file .now) (number - 1)),
       ← c .before .before .lengths-at .ensures,

@@ -19,6 +19,11 @@ abbrev μ-loop : tie.MeasureT-loop
 loop-holds : tie.Need-loop-holds Inv-loop μ-loop
 loop-holds c = (rw (c .load-count .ensures) (no-load-passed _), none-counted _)
 
+-- where the turn of a load that is judged began
+abbrev turn : (c : tie.After-is-worked Inv-loop μ-loop) → tie.In-loop Inv-loop μ-loop
+turn c = c .before .before .before .before .before
+
+-- the load that is answered
 met : (c : tie.After-load-answer Inv-loop μ-loop) → let counted = c .before .before in let loop = counted .before .before .before in
     Met (loop .before .before .before .args .file .now) (loop .loop .i) (loop .loop .counts) (counted .before .entry-at .result) (counted .count-on .result) (c .load-answer .result)
 met c =
@@ -34,8 +39,8 @@ met c =
 
 returns : tie.Need-returns Inv-loop μ-loop
 returns c =
-    let turn = c .before .before .before .before .before .before in
-    refused (turn .before .loop .inv .0) (turn .loop-test .taken) (its-answer (met (c .before .before))) (c .before .is-worked .ensures) (c .if1 .taken)
+    let its = turn (c .before) in
+    refused (its .before .loop .inv .0) (its .loop-test .taken) (its-answer (met (c .before .before))) (c .before .is-worked .ensures) (c .if1 .taken)
 
 -- a load that is passed has room on a wall that is counted
 room : (c : tie.Else1 Inv-loop μ-loop) → let counted = c .before .before .before .before in
@@ -44,10 +49,13 @@ room c = has-room (met (c .before .before)) (c .before .is-worked .ensures) (c .
 
 loop-again : tie.Need-loop-again Inv-loop μ-loop
 loop-again c =
-    let turn = c .before .before .before .before .before .before in
-    let its = met (c .before .before) in
+    let its = turn (c .before) in
+    let answered = met (c .before .before) in
     let told = c .before .is-worked .ensures in
-    (one-passed (turn .before .loop .inv .0) (turn .loop-test .taken) (its-answer its) told (c .if1 .left), one-counted its told (c .if1 .left))
+    (one-passed (its .before .loop .inv .0) (its .loop-test .taken) (its-answer answered) told (c .if1 .left), one-counted answered told (c .if1 .left))
+
+returns-2 : tie.Need-returns-2 Inv-loop μ-loop
+returns-2 c = all-passed (c .before .loop .inv .0) (c .loop-test .left)
 
 pub first-bad-load-spec : {M : Type 1} → statement M
 first-bad-load-spec =
@@ -55,4 +63,4 @@ first-bad-load-spec =
     (tie.spec
     Inv-loop μ-loop (λ c κs. tt) (λ c. omega arith) loop-holds (λ c κs. tt) (λ c. omega arith) (λ c κs. tt) (λ c κs. tt) (λ c. omega arith)
     (λ c κs. tt) (λ c κs. tt) returns (λ c. omega (arith, room c)) (λ c. omega (arith, room c)) (λ c. omega (arith, room c))
-    (λ c. omega (arith, room c)) (λ c. omega arith) (λ c. omega arith) loop-again (λ c. all-passed (c .before .loop .inv .0) (c .loop-test .left)))
+    (λ c. omega (arith, room c)) (λ c. omega arith) (λ c. omega arith) loop-again returns-2)

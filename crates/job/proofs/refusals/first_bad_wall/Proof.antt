@@ -30,9 +30,12 @@ loop-again c =
     let is = rw (looked .wall-at .ensures) at (answered .wall-answer .ensures) in
     one-passed (looked .before .before .loop .inv) (looked .before .loop-test .taken) is (c .before .is-worked .ensures) (c .if1 .left)
 
+returns-2 : tie.Need-returns-2 Inv-loop μ-loop
+returns-2 c = all-passed (c .before .loop .inv) (c .loop-test .left)
+
 pub first-bad-wall-spec : {M : Type 1} → statement M
 first-bad-wall-spec =
     tie.close
     (tie.spec
     Inv-loop μ-loop (λ c κs. tt) (λ c. omega arith) loop-holds (λ c κs. tt) (λ c. omega arith) (λ c κs. tt) (λ c κs. tt) returns (λ c. omega arith)
-    (λ c. omega arith) loop-again (λ c. all-passed (c .before .loop .inv) (c .loop-test .left)))
+    (λ c. omega arith) loop-again returns-2)

@@ -4,19 +4,19 @@ use Rattle.job.proofs.refusals.header_answer.Tie as tie
 
 returns : tie.Need-returns
 returns c =
-    let d = c .before .before .before in
-    let e = d .before .before .before .before in
+    let tests = c .before .before .before in
+    let two = tests .before .before .before .before in
     rw (
       c .or-else3 .ensures,
       c .before .or-else2 .ensures,
       c .before .before .or-else .ensures,
-      d .refused-if4 .ensures,
-      d .before .offsets-and-length-fit .ensures,
-      d .before .before .refused-if3 .ensures,
-      d .before .before .before .counts-fit .ensures,
-      e .refused-if2 .ensures,
-      e .before .edition .ensures,
-      e .before .before .refused-if .ensures,
+      tests .refused-if4 .ensures,
+      tests .before .offsets-and-length-fit .ensures,
+      tests .before .before .refused-if3 .ensures,
+      tests .before .before .before .counts-fit .ensures,
+      two .refused-if2 .ensures,
+      two .before .edition .ensures,
+      two .before .before .refused-if .ensures,
     )
 
 pub header-answer-spec : {M : Type 1} → statement M

@@ -8,15 +8,6 @@ use lib.Pow.{shl-exact}
 use Rattle.wall.proofs.checks.with_check.Statement.{statement}
 use Rattle.wall.proofs.checks.with_check.Tie as tie
 
-shift-of-requires : tie.Need-shift-of-requires
-shift-of-requires c κs = search needs
-
-cast-result : tie.Need-cast-result
-cast-result c = search needs
-
-shl-result : tie.Need-shl-result
-shl-result c = search needs
-
 returns : tie.Need-returns
 returns c =
     let h : c .before .before .args .failures < 2 ^ c .shift-of .result = omega arith in
@@ -26,4 +17,4 @@ returns-2 : tie.Need-returns-2
 returns-2 c = rw (c .if1 .left) (omega arith)
 
 pub with-check-spec : {M : Type 1} → statement M
-with-check-spec = tie.close (tie.spec shift-of-requires cast-result shl-result returns returns-2)
+with-check-spec = tie.close (tie.spec (λ c κs. search needs) (λ c. search needs) (λ c. search needs) returns returns-2)

@@ -14,9 +14,6 @@ judged : (c : tie.After-judged) → c .judged .result ≡ Judged (memberUnder (c
 unfolding verdictOf
 judged c = c .judged .ensures ∙ rw (is-true (isWorkable (c .before .args .section)) (c .before .pre))
 
-returns : tie.Need-returns
-returns c = cc (judged (c .before .before .before), c .before .member .given .1)
-
 returns-2 : tie.Need-returns-2
 returns-2 c =
     let one = judged (c .before .before .before) in
@@ -25,4 +22,6 @@ returns-2 c =
     absurd (omega arith)
 
 pub member-of-spec : {M : Type 1} → statement M
-member-of-spec = tie.close (tie.spec (λ c κs. search needs) (λ c. search needs) (λ c. search needs) (λ c κs. search needs) returns returns-2)
+member-of-spec =
+    tie.close (tie.spec (λ c κs. search needs) (λ c. search needs) (λ c. search needs) (λ c κs. search needs)
+    (λ c. cc (judged (c .before .before .before), c .before .member .given .1)) returns-2)

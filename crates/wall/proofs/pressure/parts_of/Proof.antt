@@ -7,16 +7,10 @@ use Rattle.whole.specs.Parts.{aboveZero}
 use Rattle.wall.proofs.pressure.parts_of.Statement.{statement}
 use Rattle.wall.proofs.pressure.parts_of.Tie as tie
 
-above-zero-requires : tie.Need-above-zero-requires
-above-zero-requires c κs = search needs
-
-above-zero-requires-2 : tie.Need-above-zero-requires-2
-above-zero-requires-2 c κs = search needs
-
 returns : tie.Need-returns
 returns c =
     let figures = c .before .before .before .before .args .fraction in
     (c .before .before .above-zero .ensures ∙ ap aboveZero (toZ-ofZ w64 (figures .over) (search needs)), c .above-zero2 .ensures ∙ ap aboveZero (toZ-ofZ w64 (figures .under) (search needs)))
 
 pub parts-of-spec : {M : Type 1} → statement M
-parts-of-spec = tie.close (tie.spec above-zero-requires above-zero-requires-2 returns)
+parts-of-spec = tie.close (tie.spec (λ c κs. search needs) (λ c κs. search needs) returns)

@@ -11,24 +11,6 @@ use Rattle.wall.proofs.Exact.{whole-scaled, scaled-fits, whole-line, li
 use Rattle.wall.proofs.pressure.pressure_at.Statement.{statement}
 use Rattle.wall.proofs.pressure.pressure_at.Tie as tie
 
-parts-of-requires : tie.Need-parts-of-requires
-parts-of-requires c κs = search needs
-
-parts-of-requires-2 : tie.Need-parts-of-requires-2
-parts-of-requires-2 c κs = search needs
-
-parts-of-requires-3 : tie.Need-parts-of-requires-3
-parts-of-requires-3 c κs = search needs
-
-mul-from-heel : tie.Need-mul-from-heel
-mul-from-heel c = search needs
-
-sub-from-heel : tie.Need-sub-from-heel
-sub-from-heel c = search needs
-
-enum-told : tie.Need-enum-told
-enum-told c = search needs
-
 -- the call, from where the parts are whole numbers
 abbrev start : tie.After-parts-of3 → tie.Start
 start c = c .before .before .before .before
@@ -43,9 +25,6 @@ on-line-requires c κs =
     in
     (pre .1 .long, pre .2, fit .0, fit .1)
 
-enum-told-2 : tie.Need-enum-told-2
-enum-told-2 c = search needs
-
 scaled-peak-requires : tie.Need-scaled-peak-requires
 scaled-peak-requires c κs =
     let whole = c .before .before in
@@ -53,18 +32,12 @@ scaled-peak-requires c κs =
     rw (reports factoredScale (pre .0) .0, whole .parts-of3 .ensures .0, whole .parts-of3 .ensures .1)
     (scaled-fits (reported-most (pre .1) .0) (pre .1 .contact) (omega (arith, pre .1 .long)))
 
-enum-told-3 : tie.Need-enum-told-3
-enum-told-3 c = search needs
-
 scaled-peak-requires-2 : tie.Need-scaled-peak-requires-2
 scaled-peak-requires-2 c κs =
     let whole = c .before .before in
     let pre = start whole .pre in
     rw (reports factoredScale (pre .0) .1, whole .parts-of3 .ensures .0, whole .parts-of3 .ensures .1)
     (scaled-fits (reported-most (pre .1) .1) (pre .1 .contact) (omega (arith, pre .1 .long)))
-
-enum-told-4 : tie.Need-enum-told-4
-enum-told-4 c = search needs
 
 -- the pressure by some kind, which by the block's own is also no more than the greatest peak
 abbrev by : tie.Start → Kind → ℕ
@@ -98,21 +71,6 @@ returns-4 c = bounded (start (c .before .before)) (c .enum-told4 .given .1) refl
 
 pub pressure-at-spec : {M : Type 1} → statement M
 pressure-at-spec =
-    tie.close
-    (tie.spec
-    parts-of-requires
-    parts-of-requires-2
-    parts-of-requires-3
-    mul-from-heel
-    sub-from-heel
-    enum-told
-    on-line-requires
-    enum-told-2
-    scaled-peak-requires
-    enum-told-3
-    scaled-peak-requires-2
-    enum-told-4
-    returns
-    returns-2
-    returns-3
-    returns-4)
+    tie.close (tie.spec (λ c κs. search needs) (λ c κs. search needs) (λ c κs. search needs) (λ c. search needs) (λ c. search needs)
+    (λ c. search needs) on-line-requires (λ c. search needs) scaled-peak-requires (λ c. search needs) scaled-peak-requires-2 (λ c. search needs)
+    returns returns-2 returns-3 returns-4)

@@ -4,4 +4,5 @@ use Rattle.wall.proofs.sections.stem_section.Statement.{statement}
 use Rattle.wall.proofs.sections.stem_section.Tie as tie
 
 pub stem-section-spec : {M : Type 1} → statement M
-stem-section-spec = tie.close (tie.spec (λ c κs. search needs) (λ c κs. search needs) (λ c. rw (c .before .stem-cage .ensures) at (c .section-of .ensures)))
+stem-section-spec =
+    tie.close (tie.spec (λ c κs. search needs) (λ c κs. search needs) (λ c. rw (c .before .stem-cage .ensures) at (c .section-of .ensures)))

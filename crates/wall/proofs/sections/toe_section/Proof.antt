@@ -4,4 +4,5 @@ use Rattle.wall.proofs.sections.toe_section.Statement.{statement}
 use Rattle.wall.proofs.sections.toe_section.Tie as tie
 
 pub toe-section-spec : {M : Type 1} → statement M
-toe-section-spec = tie.close (tie.spec (λ c κs. search needs) (λ c κs. search needs) (λ c. rw (c .before .toe-cage .ensures) at (c .section-of .ensures)))
+toe-section-spec =
+    tie.close (tie.spec (λ c κs. search needs) (λ c κs. search needs) (λ c. rw (c .before .toe-cage .ensures) at (c .section-of .ensures)))

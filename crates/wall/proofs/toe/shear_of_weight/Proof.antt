@@ -7,22 +7,11 @@ use Rattle.rules.proofs.Accepted.{wall-within}
 use Rattle.wall.proofs.toe.shear_of_weight.Statement.{statement}
 use Rattle.wall.proofs.toe.shear_of_weight.Tie as tie
 
-slab-requires : tie.Need-slab-requires
-slab-requires c κs = search needs
-
-field-requires : tie.Need-field-requires
-field-requires c κs = search needs
-
-mul-rounded-down : tie.Need-mul-rounded-down
-mul-rounded-down c = two-fit (omega (arith, wall-within _ (c .before .before .pre)))
-
-rounded-down-requires : tie.Need-rounded-down-requires
-rounded-down-requires c κs = search needs
-
 returns : tie.Need-returns
 unfolding shearOfWeight
 returns c = cc
 
 pub shear-of-weight-spec : {M : Type 1} → statement M
 shear-of-weight-spec =
-    tie.close (tie.spec slab-requires field-requires mul-rounded-down rounded-down-requires returns)
+    tie.close (tie.spec (λ c κs. search needs) (λ c κs. search needs) (λ c. two-fit (omega (arith, wall-within _ (c .before .before .pre))))
+    (λ c κs. search needs) returns)

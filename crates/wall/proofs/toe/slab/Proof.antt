@@ -7,15 +7,6 @@ use Rattle.rules.proofs.Accepted.{most, wall-within}
 use Rattle.wall.proofs.toe.slab.Statement.{statement}
 use Rattle.wall.proofs.toe.slab.Tie as tie
 
-field-requires : tie.Need-field-requires
-field-requires c κs = search needs
-
-mul-result : tie.Need-mul-result
-mul-result c = search needs
-
-field-requires-2 : tie.Need-field-requires-2
-field-requires-2 c κs = search needs
-
 slab-most : (c : tie.After-field2) → 14 * c .before .field .result * c .field2 .result ≤ 14 * most 11 * most 6
 slab-most c =
     let within = wall-within _ (c .before .before .pre) in
@@ -30,4 +21,4 @@ returns : tie.Need-returns
 returns c = (cc, slab-most c)
 
 pub slab-spec : {M : Type 1} → statement M
-slab-spec = tie.close (tie.spec field-requires mul-result field-requires-2 mul-result-2 returns)
+slab-spec = tie.close (tie.spec (λ c κs. search needs) (λ c. search needs) (λ c κs. search needs) mul-result-2 returns)

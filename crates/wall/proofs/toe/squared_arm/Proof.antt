@@ -9,17 +9,8 @@ use Rattle.rules.proofs.Lines.{arm-most}
 use Rattle.wall.proofs.toe.squared_arm.Statement.{statement}
 use Rattle.wall.proofs.toe.squared_arm.Tie as tie
 
-twice-arm-requires : tie.Need-twice-arm-requires
-twice-arm-requires c κs = search needs
-
 square-most : (c : tie.After-twice-arm) → squared (c .twice-arm .result) ≤ squared longest
 square-most c = let short = arm-most (wall-within _ (c .before .pre)) .0 in rw (c .twice-arm .ensures) (mul-le-mul short short)
 
-mul-result : tie.Need-mul-result
-mul-result c = omega (arith, square-most c)
-
-returns : tie.Need-returns
-returns c = (cc, square-most c)
-
 pub squared-arm-spec : {M : Type 1} → statement M
-squared-arm-spec = tie.close (tie.spec twice-arm-requires mul-result returns)
+squared-arm-spec = tie.close (tie.spec (λ c κs. search needs) (λ c. omega (arith, square-most c)) (λ c. (cc, square-most c)))

@@ -22,12 +22,6 @@ returns-2 : tie.Need-returns-2 Inv-loop μ-loop
 unfolding askedFor isNumber
 returns-2 c = rw (lt-leb _ _ (c .if2 .taken), and-false)
 
-loop-holds : tie.Need-loop-holds Inv-loop μ-loop
-loop-holds c = none-passed _
-
-shared-slice-read-byte : tie.Need-shared-slice-read-byte Inv-loop μ-loop
-shared-slice-read-byte c = omega arith
-
 returns-3 : tie.Need-returns-3 Inv-loop μ-loop
 unfolding askedFor isNumber
 returns-3 c =
@@ -42,21 +36,6 @@ returns-4 c =
     let no = not-all (turn .inv) (omega arith) (rw (lt-leb _ _ (c .if4 .taken), and-false)) in
     rw (no, and-false)
 
-mul-value : tie.Need-mul-value Inv-loop μ-loop
-mul-value c = omega (arith, small (c .before .before .before .before .loop .inv) (omega arith))
-
-cast-value : tie.Need-cast-value Inv-loop μ-loop
-cast-value c = omega arith
-
-add-value : tie.Need-add-value Inv-loop μ-loop
-add-value c = omega (arith, small (c .before .before .before .before .loop .inv) (omega arith))
-
-add-i : tie.Need-add-i Inv-loop μ-loop
-add-i c = omega arith
-
-loop-less : tie.Need-loop-less Inv-loop μ-loop
-loop-less c = omega arith
-
 loop-again : tie.Need-loop-again Inv-loop μ-loop
 loop-again c = one-more (c .before .before .before .before .loop .inv) (omega arith) (c .before .if3 .left) (c .if4 .left)
 
@@ -65,9 +44,6 @@ unfolding askedFor isNumber
 returns-5 c =
     let made = all-made (c .before .before .loop .inv) (c .before .loop-test .left) in
     rw (made, le-ltb _ _ (c .if5 .taken), and-false)
-
-cast-t12 : tie.Need-cast-t12 Inv-loop μ-loop
-cast-t12 c = omega arith
 
 returns-6 : tie.Need-returns-6 Inv-loop μ-loop
 unfolding askedFor isNumber
@@ -85,21 +61,7 @@ returns-6 c =
 pub wall-number-spec : {M : Type 1} → statement M
 wall-number-spec =
     tie.close
-    (tie.spec
-    Inv-loop
-    μ-loop
-    returns
-    returns-2
-    loop-holds
-    shared-slice-read-byte
-    returns-3
-    returns-4
-    mul-value
-    cast-value
-    add-value
-    add-i
-    loop-less
-    loop-again
-    returns-5
-    cast-t12
-    returns-6)
+    (tie.spec Inv-loop μ-loop returns returns-2 (λ c. none-passed _) (λ c. omega arith) returns-3 returns-4
+    (λ c. omega (arith, small (c .before .before .before .before .loop .inv) (omega arith))) (λ c. omega arith)
+    (λ c. omega (arith, small (c .before .before .before .before .loop .inv) (omega arith))) (λ c. omega arith) (λ c. omega arith)
+    loop-again returns-5 (λ c. omega arith) returns-6)
