@@ -96,7 +96,14 @@ returns c =
     let second = sums .before in
     let first = second .before in
     let H = toZ-ofZ w64 (first .totals-by .result .H) (search needs) in
-    cc (toZ-ofZ w64 _ (sub-held told) ∙ lasting-is sums, H, service-is first, factored-is second)
+    rw (
+      c .stem-action .ensures,
+      c .before .held .ensures,
+      toZ-ofZ w64 _ (sub-held told) ∙ lasting-is sums,
+      H,
+      service-is first,
+      factored-is second,
+    )
 
 pub worked-spec : {M : Type 1} → statement M
 worked-spec =
