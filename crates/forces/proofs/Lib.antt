@@ -2,7 +2,7 @@ pub mod Cells
 pub mod ForcesAdd
 pub mod Holding
 pub mod InPlace
-pub mod Joined
 pub mod OnStem
 pub mod Once
+pub mod Runs
 pub mod Summed

@@ -108,12 +108,10 @@ pub fn sorts_of(loads: Loads) -> Sorts
     ensures { λ r. ⌜ r ≡ sortsOf loads ⌝ }
 {
     let mut sorts = SORTS;
-    for i in FIRST_DEAD..COMPONENTS {
-        sorts[i] = if i < FIRST_LIVE {
-            sort_by_way(loads[i - FIRST_DEAD], DEAD_WEIGHT, DEAD_PUSH)
-        } else {
-            sort_by_way(loads[i - FIRST_LIVE], LIVE_WEIGHT, LIVE_PUSH)
-        };
+    for i in 0..MOST_LOADS_ON_WALL {
+        let load = loads[i];
+        sorts[FIRST_DEAD + i] = sort_by_way(load, DEAD_WEIGHT, DEAD_PUSH);
+        sorts[FIRST_LIVE + i] = sort_by_way(load, LIVE_WEIGHT, LIVE_PUSH);
     }
     sorts
 }

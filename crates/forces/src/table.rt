@@ -16,13 +16,15 @@ use record::POSITION;
 use record::WATER_HEIGHT;
 use record::Wall;
 ghost use mathlib.Core.Path.{_≡_};
+ghost use mathlib.Core.List.{_++_};
 ghost use Prim.Native.Nat.{_≤_, _<_, _^_};
 ghost use lib.Dec.{T};
+ghost use lib.ListN.{take};
 ghost use Rattle.rules.specs.Forces.{table};
 ghost use Rattle.rules.specs.Beyond.{fits};
 ghost use Rattle.rules.proofs.Accepted.{most};
 ghost use Rattle.forces.specs.Faces.{rowsOf};
-ghost use Rattle.forces.specs.Tables.{LoadSmall, LoadsSmall, partRow, rowsIn};
+ghost use Rattle.forces.specs.Tables.{ownRows, LoadSmall, LoadsSmall, partRow, rowsIn};
 
 pub const FIRST_DEAD: usize = WEIGHTS + PUSHES;
 
@@ -52,22 +54,28 @@ fn load_row(load: Load, part: usize) -> Row
     }
 }
 
+// The weights, and behind them as many pushes; where the rows of the loads come there is nothing yet.
+fn own_rows(weights: WeightRows, pushes: PushRows) -> Table
+    ensures { λ r. ⌜ take ownRows r ≡ weights ++ pushes ⌝ }
+{
+    let mut table = [[0i64; 3]; COMPONENTS];
+    for i in 0..WEIGHTS {
+        table[i] = weights[i];
+        table[WEIGHTS + i] = pushes[i];
+    }
+    table
+}
+
 // The rows one behind the other.
 pub fn filled(weights: WeightRows, pushes: PushRows, loads: Loads) -> Table
     requires { ⌜ LoadsSmall loads ⌝ }
     ensures { λ r. ⌜ r ≡ rowsIn weights pushes loads ⌝ }
 {
-    let mut table = [[0i64; 3]; COMPONENTS];
-    for i in 0..COMPONENTS {
-        table[i] = if i < WEIGHTS {
-            weights[i]
-        } else if i < FIRST_DEAD {
-            pushes[i - WEIGHTS]
-        } else if i < FIRST_LIVE {
-            load_row(loads[i - FIRST_DEAD], DEAD)
-        } else {
-            load_row(loads[i - FIRST_LIVE], LIVE)
-        };
+    let mut table = own_rows(weights, pushes);
+    for i in 0..MOST_LOADS_ON_WALL {
+        let load = loads[i];
+        table[FIRST_DEAD + i] = load_row(load, DEAD);
+        table[FIRST_LIVE + i] = load_row(load, LIVE);
     }
     table
 }
