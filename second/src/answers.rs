@@ -13,9 +13,22 @@ pub struct Refusal {
     pub place: u64,
 }
 
+/// The refusal of a count out of range; a buffer that isn't whole records is
+/// met with it too.
+pub const COUNT_OUT_OF_RANGE: Refusal = Refusal {
+    number: 3,
+    place: 0,
+};
+
 /// The refusal of a lent buffer that is too short, after all others.
 pub const BUFFER_TOO_SHORT: Refusal = Refusal {
     number: 8,
+    place: 0,
+};
+
+/// The same where a job file was to be written.
+pub const OUTPUT_TOO_SHORT: Refusal = Refusal {
+    number: 9,
     place: 0,
 };
 
@@ -36,9 +49,12 @@ fn refuse<T>(number: u8, place: usize) -> Result<T, Refusal> {
 /// before any offset), then all walls in file order, then all loads.
 pub fn accept(input: &[u8]) -> Result<Job, Refusal> {
     let header = accept_header(input)?;
-    let walls = accept_walls(input, &header)?;
-    let loads = accept_loads(input, &header, &walls)?;
-    Ok(Job { walls, loads })
+    let (walls, loads) = (usize::from(header.walls), usize::from(header.loads));
+    let first_load = usize::from(header.first_load);
+    accept_records(
+        (0..walls).map(|index| read_record(input, HEADER_BYTES + WALL_BYTES * index)),
+        (0..loads).map(|index| read_record(input, first_load + LOAD_BYTES * index)),
+    )
 }
 
 fn accept_header(input: &[u8]) -> Result<Header, Refusal> {
@@ -48,26 +64,38 @@ fn accept_header(input: &[u8]) -> Result<Header, Refusal> {
     if header.edition != EDITION {
         return refuse(2, 0);
     }
-    let walls = usize::from(header.walls);
-    if !(1..=MOST_WALLS).contains(&walls) || usize::from(header.loads) > MOST_LOADS {
-        return refuse(3, 0);
-    }
-    let length = usize::from(header.length);
-    let as_due = usize::from(header.first_wall) == HEADER_BYTES
-        && usize::from(header.first_load) == header.first_load_due()
-        && length == header.length_due()
-        && length == input.len();
-    if as_due {
+    let (walls, loads) = (usize::from(header.walls), usize::from(header.loads));
+    accept_counts(walls, loads)?;
+    if header == Header::due(walls, loads) && usize::from(header.length) == input.len() {
         Ok(header)
     } else {
         refuse(4, 0)
     }
 }
 
-fn accept_walls(input: &[u8], header: &Header) -> Result<Vec<Wall>, Refusal> {
+/// Whether a job may have so many walls and loads.
+pub fn accept_counts(walls: usize, loads: usize) -> Result<(), Refusal> {
+    if (1..=MOST_WALLS).contains(&walls) && loads <= MOST_LOADS {
+        Ok(())
+    } else {
+        Err(COUNT_OUT_OF_RANGE)
+    }
+}
+
+/// Takes in the records of a job whose counts are in range: all walls in order,
+/// then all loads.
+pub fn accept_records(
+    walls: impl Iterator<Item = RawWall>,
+    loads: impl Iterator<Item = RawLoad>,
+) -> Result<Job, Refusal> {
+    let walls = accept_walls(walls)?;
+    let loads = accept_loads(loads, &walls)?;
+    Ok(Job { walls, loads })
+}
+
+fn accept_walls(records: impl Iterator<Item = RawWall>) -> Result<Vec<Wall>, Refusal> {
     let mut walls = Vec::new();
-    for index in 0..usize::from(header.walls) {
-        let raw: RawWall = read_record(input, HEADER_BYTES + WALL_BYTES * index);
+    for (index, raw) in records.enumerate() {
         if !(0..WALL_FIELDS).all(|field| field_in_range(&raw, field)) {
             return refuse(5, index + 1);
         }
@@ -78,11 +106,13 @@ fn accept_walls(input: &[u8], header: &Header) -> Result<Vec<Wall>, Refusal> {
 
 /// Reading taken: load by load, each one for 6 and then for 7, so that a ninth
 /// load stands before a bad field in a later load.
-fn accept_loads(input: &[u8], header: &Header, walls: &[Wall]) -> Result<Vec<Load>, Refusal> {
+fn accept_loads(
+    records: impl Iterator<Item = RawLoad>,
+    walls: &[Wall],
+) -> Result<Vec<Load>, Refusal> {
     let mut loads = Vec::new();
     let mut carried = vec![0; walls.len()];
-    for index in 0..usize::from(header.loads) {
-        let raw: RawLoad = read_record(input, header.first_load_due() + LOAD_BYTES * index);
+    for (index, raw) in records.enumerate() {
         let Some(load) = Load::from_raw(&raw, walls) else {
             return refuse(6, index + 1);
         };

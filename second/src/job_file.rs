@@ -11,6 +11,8 @@ pub const LOAD_BYTES: usize = 4 * LOAD_FIELDS;
 pub const MOST_WALLS: usize = 64;
 pub const MOST_LOADS: usize = 512;
 pub const MOST_LOADS_A_WALL: usize = 8;
+/// Bytes of the longest file.
+pub const MOST_BYTES: usize = HEADER_BYTES + WALL_BYTES * MOST_WALLS + LOAD_BYTES * MOST_LOADS;
 pub const MOST_LOAD: u32 = 200_000;
 pub const BARS: [u32; 8] = [8, 10, 12, 16, 20, 25, 32, 40];
 
@@ -137,15 +139,36 @@ impl Header {
         })
     }
 
-    /// Offset of the first load that the count of walls gives.
-    pub fn first_load_due(&self) -> usize {
-        HEADER_BYTES + WALL_BYTES * usize::from(self.walls)
+    /// The header of a file with so many walls and loads, both in range.
+    pub fn due(walls: usize, loads: usize) -> Header {
+        let first_load = HEADER_BYTES + WALL_BYTES * walls;
+        Header {
+            edition: EDITION,
+            walls: walls as u16,
+            first_wall: HEADER_BYTES as u16,
+            loads: loads as u16,
+            first_load: first_load as u16,
+            length: (first_load + LOAD_BYTES * loads) as u16,
+        }
     }
 
-    /// Whole length that the two counts give.
-    pub fn length_due(&self) -> usize {
-        self.first_load_due() + LOAD_BYTES * usize::from(self.loads)
+    /// The six numbers in file order.
+    pub fn numbers(&self) -> [u16; 6] {
+        [
+            self.edition,
+            self.walls,
+            self.first_wall,
+            self.loads,
+            self.first_load,
+            self.length,
+        ]
     }
+}
+
+/// The u32 numbers that some bytes hold, four bytes each.
+pub fn read_numbers(bytes: &[u8]) -> Vec<u32> {
+    let (numbers, _) = bytes.as_chunks();
+    numbers.iter().copied().map(u32::from_le_bytes).collect()
 }
 
 /// The u32 numbers of one record. The caller has checked the input's length.

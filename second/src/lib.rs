@@ -1,7 +1,8 @@
-//! A second, separate working of the retaining wall sheet of document 01.
+//! A second, separate working of the retaining wall sheet of document 01, and of
+//! the requests of document 02 that are met.
 //!
-//! Each module answers to one heading of that document. All figures are [`Whole`];
-//! the only floating point is in [`drawing`].
+//! Each module answers to one heading of them. All figures are [`Whole`]; the only
+//! floating point is in [`drawing`].
 
 pub mod answers;
 pub mod bearing;
@@ -19,6 +20,7 @@ pub mod rounding;
 pub mod section;
 pub mod sheet_line;
 pub mod traits;
+pub mod writing;
 
 use answers::{Refusal, BUFFER_TOO_SHORT};
 use sheet_line::LINE_NUMBERS;
@@ -63,6 +65,14 @@ pub fn calculate(input: &[u8], out: &mut [i64]) -> Result<(), Refusal> {
         }
     }
     Ok(())
+}
+
+/// A job file taken apart and written again, or the refusal's line.
+pub fn rewritten(input: &[u8]) -> Vec<u8> {
+    match writing::rewrite(input) {
+        Err(refusal) => format!("{refusal}\n").into_bytes(),
+        Ok(file) => file,
+    }
 }
 
 /// One line for the drawing of a wall: the shape's name, then the bits of the

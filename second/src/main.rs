@@ -1,8 +1,12 @@
 //! `second`: the sheet of a job file on standard input; `second draw N`: the
-//! drawing of wall N; `second traits`: what the job touches.
+//! drawing of wall N; `second rewrite`: the job taken apart and written again;
+//! `second traits`: what the job touches.
 
 use std::io::{self, Read, Write};
 use std::process::ExitCode;
+
+const USAGE: &str = "usage: second | second draw N | second rewrite | second traits   \
+                     (job file on standard input)";
 
 /// The start of standard input, as much as can matter; the rest is read and
 /// dropped so that a writer is not cut off.
@@ -17,16 +21,25 @@ fn read_input() -> io::Result<Vec<u8>> {
     Ok(kept)
 }
 
-fn run(arguments: &[&str]) -> io::Result<Option<String>> {
+/// What is to be printed; `None` of arguments that ask for nothing there is.
+fn run(arguments: &[&str]) -> io::Result<Option<Vec<u8>>> {
     Ok(match arguments {
-        [] => Some(second::sheet(&read_input()?)),
-        ["traits"] => Some(second::traits::line(&read_input()?)),
+        [] => Some(second::sheet(&read_input()?).into()),
+        ["rewrite"] => Some(second::rewritten(&read_input()?)),
+        ["traits"] => Some(second::traits::line(&read_input()?).into()),
         ["draw", number] => match number.parse() {
-            Ok(number) => Some(second::drawing_line(&read_input()?, number)),
+            Ok(number) => Some(second::drawing_line(&read_input()?, number).into()),
             Err(_) => None,
         },
         _ => None,
     })
+}
+
+/// Prints all of it; a job file need not end with a line.
+fn print(bytes: &[u8]) -> io::Result<()> {
+    let mut stdout = io::stdout().lock();
+    stdout.write_all(bytes)?;
+    stdout.flush()
 }
 
 fn main() -> ExitCode {
@@ -35,16 +48,14 @@ fn main() -> ExitCode {
         .map(|word| word.to_string_lossy().into_owned())
         .collect();
     let words: Vec<&str> = arguments.iter().map(String::as_str).collect();
-    let printed = run(&words).and_then(|text| match text {
-        Some(text) => io::stdout().write_all(text.as_bytes()).map(|()| true),
+    let printed = run(&words).and_then(|bytes| match bytes {
+        Some(bytes) => print(&bytes).map(|()| true),
         None => Ok(false),
     });
     match printed {
         Ok(true) => ExitCode::SUCCESS,
         Ok(false) => {
-            eprintln!(
-                "usage: second | second draw N | second traits   (job file on standard input)"
-            );
+            eprintln!("{USAGE}");
             ExitCode::from(2)
         }
         Err(error) => {

@@ -1,13 +1,14 @@
 //! The entries of the office library, and this program's answers in their place.
 //!
 //! How much must be lent, how an answer is packed, the numbers of the shapes and
-//! how a check is asked for are those of `c/office.h`, as document 01 has none of
-//! them; the rest is document 01's.
+//! how a check is asked for are those of `c/office.h`, as the documents have none of
+//! them; the rest is theirs.
 
 use crate::answers::{Refusal, BUFFER_TOO_SHORT};
 use crate::drawing::{draw, Shape};
 use crate::job_file::MOST_WALLS;
 use crate::sheet_line::{CHECKS, LINE_NUMBERS};
+use crate::writing;
 use std::fmt;
 
 /// Letters of the longest number of 64 bits, its sign and what ends it.
@@ -20,8 +21,9 @@ pub const TEXT_ROOM: usize = NUMBER_ROOM * LINE_NUMBERS * MOST_WALLS;
 pub const DRAWING_ROOM: usize = 5;
 
 /// An answer in one number: the refusal's place in the low 32 bits, its number
-/// in the 16 bits above, and in the highest 16 the case of a drawing's shape.
-/// A sheet that is worked is 0.
+/// in the 16 bits above, and in the highest 16 the case of a drawing's shape, or
+/// how many bytes a job file has that was written. A sheet that is worked is 0,
+/// and so is a job that is taken apart.
 #[derive(Clone, Copy, Debug, PartialEq, Eq)]
 pub struct Packed(pub u64);
 
@@ -36,8 +38,22 @@ impl Packed {
         self.0 >> 32 & 0xffff
     }
 
-    /// 0 nothing, 1 whole, 2 toe triangle, 3 heel triangle.
+    /// Of a drawing: 0 nothing, 1 whole, 2 toe triangle, 3 heel triangle.
     pub fn shape(self) -> u64 {
+        self.highest()
+    }
+
+    /// Of a job file: the bytes written, 0 where it was refused.
+    pub fn bytes(self) -> u64 {
+        self.highest()
+    }
+
+    /// The answer to a job file of so many bytes, which is below 65536.
+    fn written(bytes: usize) -> Packed {
+        Packed((bytes as u64) << 48)
+    }
+
+    fn highest(self) -> u64 {
         self.0 >> 48
     }
 }
@@ -62,8 +78,11 @@ impl From<&Shape> for Packed {
 
 impl fmt::Display for Packed {
     fn fmt(&self, out: &mut fmt::Formatter<'_>) -> fmt::Result {
-        let (number, place, shape) = (self.number(), self.place(), self.shape());
-        write!(out, "number {number}, place {place}, shape {shape}")
+        let (number, place, highest) = (self.number(), self.place(), self.highest());
+        write!(
+            out,
+            "number {number}, place {place}, highest bits {highest}"
+        )
     }
 }
 
@@ -83,6 +102,12 @@ pub trait Office {
     /// Whether the bit of a check, by which it is asked for, is set in the
     /// failures of a line; false of a number that is no check's bit.
     fn has_failed(&self, failures: u8, check: u8) -> bool;
+
+    /// The job file of some records, at the start of `out`.
+    fn write(&self, walls: &[u32], loads: &[u32], out: &mut [u8]) -> Packed;
+
+    /// The records of a job, at the start of `walls` and of `loads`.
+    fn records(&self, job: &[u8], walls: &mut [u32], loads: &mut [u32]) -> Packed;
 }
 
 /// This program's own answers.
@@ -122,11 +147,26 @@ impl Office for Second {
     fn has_failed(&self, failures: u8, check: u8) -> bool {
         CHECKS.contains(&check) && failures & check != 0
     }
+
+    fn write(&self, walls: &[u32], loads: &[u32], out: &mut [u8]) -> Packed {
+        match writing::write(walls, loads, out) {
+            Ok(bytes) => Packed::written(bytes),
+            Err(refusal) => refusal.into(),
+        }
+    }
+
+    fn records(&self, job: &[u8], walls: &mut [u32], loads: &mut [u32]) -> Packed {
+        match writing::take_apart(job, walls, loads) {
+            Ok(()) => Packed::WORKED,
+            Err(refusal) => refusal.into(),
+        }
+    }
 }
 
 #[cfg(test)]
 mod tests {
     use super::*;
+    use crate::job_file::MOST_BYTES;
 
     #[test]
     fn a_packed_answer_is_taken_apart() {
@@ -141,8 +181,15 @@ mod tests {
         assert_eq!(Packed(3 << 48).shape(), 3);
         assert_eq!(Packed(3 << 48).number(), 0);
         assert_eq!(
-            Packed(7 << 32 | 9).to_string(),
-            "number 7, place 9, shape 0"
+            Packed(2 << 48 | 7 << 32 | 9).to_string(),
+            "number 7, place 9, highest bits 2"
         );
+    }
+
+    #[test]
+    fn the_longest_file_has_its_bytes_in_the_highest_bits() {
+        let packed = Packed::written(MOST_BYTES);
+        assert_eq!((packed.bytes(), MOST_BYTES), (18_188, 18_188));
+        assert_eq!((packed.number(), packed.place()), (0, 0));
     }
 }

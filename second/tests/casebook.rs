@@ -1,7 +1,9 @@
 //! The jobs that the gate gives to `crates/casebook`: they are the generator's,
 //! they touch everything, and the text it is held to is this program's.
 
+use second::answers::accept;
 use second::generator::samples;
+use second::rewritten;
 use second::traits::{of, VOCABULARY};
 use std::collections::{BTreeMap, BTreeSet};
 use std::fs::{read, read_dir, read_to_string, File};
@@ -76,8 +78,18 @@ fn the_text_is_what_this_program_prints() {
         assert!(output.status.success(), "{name}");
         printed.extend(output.stdout);
     }
+    printed.extend(last_line().into_bytes());
     let text = read(crate_part("stdout")).unwrap();
     assert!(text == printed, "other text than second prints");
+}
+
+/// How many of the jobs are taken apart and written again: all that are accepted.
+fn last_line() -> String {
+    let jobs = kept();
+    let again = jobs.values().filter(|job| rewritten(job) == **job).count();
+    let accepted = jobs.values().filter(|job| accept(job).is_ok()).count();
+    assert_eq!(again, accepted);
+    format!("{again} jobs written again, byte for byte\n")
 }
 
 /// Every refusal, every block in service and factored, every bit set and

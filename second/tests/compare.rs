@@ -6,6 +6,7 @@ use second::compare::{run, Found, Until, Wish};
 use second::generator::{numbered, KINDS};
 use second::office::{Office, Packed, Second, TEXT_ROOM};
 use second::sheet_line::{STEM_STEEL, TOE_STEEL};
+use second::writing::records;
 use std::time::Duration;
 
 const JOBS: usize = 12 * KINDS.len();
@@ -53,6 +54,36 @@ faults! {
     PlaceOfNoWall,
     SteelOfTheOther,
     AnyBitOfNumber,
+    OffsetFromLoads,
+    FieldTurnedRound,
+    LoadsBeforeWalls,
+    LastRecordLeftOut,
+    ByteBehindFile,
+    CountOfBytes,
+    ExactRoomRefused,
+    NineBeforeFive,
+    NineAsEight,
+    OneByteTooFewTaken,
+    HeaderThoughRefused,
+    BytesOfRefusal,
+    WallOf32Numbers,
+    NoWallsTaken,
+    WallsBeforeCounts,
+    LoadsBeforeCounts,
+    AllLoadsForSixFirst,
+    CountCutTo16Bits,
+    PlaceOfWrittenLoad,
+    LastLoadNotTaken,
+    NumberTurnedRound,
+    NumberBehindWalls,
+    NumberBehindLoads,
+    BytesOfRecords,
+    EightFirst,
+    NumberOfRefusedJob,
+    OneWallNumberTooFewTaken,
+    OneLoadNumberTooFewTaken,
+    RoomsTakenTogether,
+    WallsThoughLoadsTooShort,
     Panic,
 }
 
@@ -115,6 +146,128 @@ impl Office for Wrong {
             _ => Second.has_failed(failures, check),
         }
     }
+
+    fn write(&self, walls: &[u32], loads: &[u32], out: &mut [u8]) -> Packed {
+        let before = out.to_vec();
+        let answer = Second.write(walls, loads, out);
+        match answer.number() {
+            0 => self.spoil_file(answer, loads, &before, out),
+            _ => self.spoil_refusal(answer, walls, loads, out),
+        }
+    }
+
+    fn records(&self, job: &[u8], walls: &mut [u32], loads: &mut [u32]) -> Packed {
+        let apart = records(job).unwrap_or_default();
+        let before = loads.to_vec();
+        let answer = Second.records(job, walls, loads);
+        let (wall_numbers, load_numbers) = (apart.walls.len(), apart.loads.len());
+        match (self.0, answer.number()) {
+            (LastLoadNotTaken, 0) if load_numbers > 0 => {
+                loads[load_numbers - 5..].copy_from_slice(&before[load_numbers - 5..]);
+            }
+            (NumberTurnedRound, 0) => walls[1] = walls[1].swap_bytes(),
+            (NumberBehindWalls, 0) if walls.len() > wall_numbers => walls[wall_numbers] = 0,
+            (NumberBehindLoads, 0) if loads.len() > load_numbers => loads[load_numbers] = 0,
+            (BytesOfRecords, 0) => return Packed((job.len() as u64) << 48),
+            (NumberOfRefusedJob, 1..=7) if !loads.is_empty() => loads[0] = 1,
+            (EightFirst, 1..=7) if walls.is_empty() => return Packed(8 << 32),
+            (OneWallNumberTooFewTaken, 8) if walls.len() + 1 == wall_numbers => {
+                return Packed::WORKED;
+            }
+            (OneLoadNumberTooFewTaken, 8) if loads.len() + 1 == load_numbers => {
+                return Packed::WORKED;
+            }
+            (RoomsTakenTogether, 8) if walls.len() + loads.len() >= wall_numbers + load_numbers => {
+                return Packed::WORKED;
+            }
+            (WallsThoughLoadsTooShort, 8) if walls.len() >= wall_numbers => {
+                walls[..wall_numbers].copy_from_slice(&apart.walls);
+            }
+            _ => {}
+        }
+        answer
+    }
+}
+
+impl Wrong {
+    /// A file that was written, or what is said of it, made wrong.
+    fn spoil_file(&self, answer: Packed, loads: &[u32], before: &[u8], out: &mut [u8]) -> Packed {
+        let bytes = answer.bytes() as usize;
+        match self.0 {
+            OffsetFromLoads => {
+                let offset = (12 + 124 * (loads.len() / 5)) as u16;
+                out[8..10].copy_from_slice(&offset.to_le_bytes());
+            }
+            FieldTurnedRound => out[16..20].reverse(),
+            LoadsBeforeWalls => out[12..bytes].rotate_right(4 * loads.len()),
+            LastRecordLeftOut => {
+                let start = bytes - if loads.is_empty() { 124 } else { 20 };
+                out[start..bytes].copy_from_slice(&before[start..bytes]);
+            }
+            ByteBehindFile if out.len() > bytes => out[bytes] = 0,
+            CountOfBytes => return Packed(answer.0 - (1 << 48)),
+            ExactRoomRefused if out.len() == bytes => {
+                out.copy_from_slice(before);
+                return Packed(9 << 32);
+            }
+            _ => {}
+        }
+        answer
+    }
+
+    /// A refusal, or what stands in the buffer after it, made wrong.
+    fn spoil_refusal(
+        &self,
+        answer: Packed,
+        walls: &[u32],
+        loads: &[u32],
+        out: &mut [u8],
+    ) -> Packed {
+        let needed = 12 + 4 * (walls.len() + loads.len());
+        let short = out.len() < needed;
+        match (self.0, answer.number()) {
+            (_, 3) => return self.spoil_three(answer, walls, loads, out),
+            (NineBeforeFive, 5) if short => return Packed(9 << 32),
+            (NineAsEight, 9) => return Packed(8 << 32),
+            (OneByteTooFewTaken, 9) if out.len() + 1 == needed => {
+                return Packed((needed as u64) << 48);
+            }
+            (HeaderThoughRefused, _) if out.len() >= 12 => out[..2].copy_from_slice(&[1, 0]),
+            (BytesOfRefusal, _) => return Packed(answer.0 | 136 << 48),
+            (AllLoadsForSixFirst, 7) => {
+                let behind = &loads[5 * answer.place() as usize..];
+                let later = Second.write(walls, behind, &mut []);
+                if later.number() == 6 {
+                    return Packed(later.0 + answer.place());
+                }
+            }
+            (PlaceOfWrittenLoad, 6 | 7) => return Packed(answer.0 - 1),
+            _ => {}
+        }
+        answer
+    }
+
+    /// Buffers taken, or looked into, that must be refused with 3.
+    fn spoil_three(&self, answer: Packed, walls: &[u32], loads: &[u32], out: &mut [u8]) -> Packed {
+        let in_range = |walls: &[u32], loads: &[u32]| {
+            let other = Second.write(walls, loads, &mut []);
+            if other.number() == 9 {
+                answer
+            } else {
+                other
+            }
+        };
+        match (self.0, walls.len(), loads.len()) {
+            (WallOf32Numbers, 32, _) => Second.write(&walls[..31], loads, out),
+            (NoWallsTaken, 0, 0) => Packed(12 << 48),
+            (WallsBeforeCounts, 2015, _) => in_range(&walls[31..], loads),
+            (LoadsBeforeCounts, _, 2565) => in_range(walls, &loads[5..]),
+            (CountCutTo16Bits, _, 327_680..) => {
+                Second.write(walls, &loads[..loads.len() - 327_680], out)
+            }
+            _ => answer,
+        }
+    }
 }
 
 fn found(office: &(impl Office + Sync), threads: usize) -> Option<Found> {
@@ -131,6 +284,8 @@ fn nothing_differs_from_itself() {
     let table = again.to_string();
     assert!(table.starts_with("| | |\n|---|---|\n| jobs | worked "));
     assert!(table.contains(&format!("| calls of text | {} |", 2 * JOBS)));
+    assert!(table.contains("| calls of records | taken apart "));
+    assert!(table.contains("| calls of write | written "));
 }
 
 #[test]
@@ -147,7 +302,8 @@ fn what_differs_is_said() {
     let said = |fault| found(&Wrong(fault), 1).map_or(String::new(), |found| found.what);
     let words = said(PlaceOfNoWall);
     assert!(words.starts_with("drawing of wall 4294967295, 4 figures lent: the answer is"));
-    assert!(words.ends_with("place 0, shape 0) and not (number 18, place 4294967295, shape 0)"));
+    let not = "and not (number 18, place 4294967295, highest bits 0)";
+    assert!(words.ends_with(&format!("place 0, highest bits 0) {not}")));
     let words = said(NumberBehind);
     assert!(words.starts_with("calculate, ") && words.contains(" holds 0 and not -922"));
     let words = "check 255 in failures 0c: the answer is true and not false";
@@ -155,10 +311,28 @@ fn what_differs_is_said() {
     assert_eq!(said(Panic), "a panic: a ninth load");
 }
 
+#[test]
+fn what_differs_in_writing_is_said() {
+    let said = |fault| found(&Wrong(fault), 1).map_or(String::new(), |found| found.what);
+    let own = "write of 93 and 10 numbers (the job's own), 424 bytes lent: ";
+    let words = said(CountOfBytes);
+    assert!(words.starts_with(own), "{words}");
+    assert!(words.contains(" highest bits 423) and not (number 0, place 0, highest bits 424)"));
+    let words = said(LastRecordLeftOut);
+    assert!(words.starts_with(&format!("{own}place 404 of what was lent")));
+    let words = said(WallOf32Numbers);
+    assert!(words.contains("(one wall of 32 numbers), 176 bytes lent: the answer is (number 6"));
+    let words = said(NumberBehindLoads);
+    assert!(words.starts_with("records, "), "{words}");
+    assert!(
+        words.contains(" numbers lent: in the loads place 10 of what was lent, from 0, holds 0")
+    );
+}
+
 /// The first difference is the same one however many threads look for it.
 #[test]
 fn the_first_difference_is_found() {
-    for fault in [FiguresOfNothing, NinthAsBadLoad, Panic] {
+    for fault in [FiguresOfNothing, NinthAsBadLoad, AllLoadsForSixFirst, Panic] {
         let alone = found(&Wrong(fault), 1);
         assert!(alone.is_some());
         for _ in 0..3 {

@@ -3,7 +3,7 @@
 
 mod common;
 
-use common::{case_a_bytes, case_a_draft, CASE_A_LINE};
+use common::{case_a_bytes, case_a_draft, CASE_A, CASE_A_LINE};
 use second::answers::{Refusal, BUFFER_TOO_SHORT};
 use second::office::{Office, Packed, Second, TEXT_ROOM};
 
@@ -120,4 +120,57 @@ fn checks_are_asked_for_by_their_bits() {
         assert_eq!(set(bit), [bit]);
         assert!(!set(u8::MAX - bit).contains(&bit));
     }
+}
+
+/// How many bytes stand in the highest bits of the answer, and 0 of a refusal.
+#[test]
+fn a_written_file_says_how_many_bytes_it_has() {
+    let write = |walls: &[u32], loads: &[u32], room: usize| {
+        let mut out = vec![0xff; room];
+        let answer = Second.write(walls, loads, &mut out);
+        (answer, out)
+    };
+    let (answer, out) = write(&CASE_A, &[], 140);
+    assert_eq!(answer, Packed(136 << 48));
+    assert_eq!((answer.bytes(), answer.number()), (136, 0));
+    assert_eq!(out[..136], case_a_bytes());
+    assert_eq!(out[136..], [0xff; 4]);
+    let refusals = [
+        (&CASE_A[..30], &[][..], 3 << 32),
+        (&[0; 31], &[4], 3 << 32),
+        (&[0; 31], &[0; 5], 5 << 32 | 1),
+        (&CASE_A, &[0; 5], 6 << 32 | 1),
+        (&CASE_A, &[1, 0, 0, 0, 0].repeat(9), 7 << 32 | 9),
+    ];
+    for (walls, loads, answer) in refusals {
+        for room in [0, 400] {
+            assert_eq!(
+                write(walls, loads, room),
+                (Packed(answer), vec![0xff; room])
+            );
+        }
+    }
+    assert_eq!(write(&CASE_A, &[], 135), (Packed(9 << 32), vec![0xff; 135]));
+}
+
+#[test]
+fn records_are_taken_apart_into_two_buffers() {
+    let mut draft = case_a_draft();
+    draft.loads.push([1, 0, 2300, 1, 2]);
+    let apart = |job: &[u8], walls: usize, loads: usize| {
+        let (mut walls, mut loads) = (vec![u32::MAX; walls], vec![u32::MAX; loads]);
+        let answer = Second.records(job, &mut walls, &mut loads);
+        (answer, walls, loads)
+    };
+    let (answer, walls, loads) = apart(&draft.bytes(), 32, 6);
+    assert_eq!(answer, Packed::WORKED);
+    assert_eq!((&walls[..31], walls[31]), (&CASE_A[..], u32::MAX));
+    assert_eq!(loads, [1, 0, 2300, 1, 2, u32::MAX]);
+    for (walls, loads) in [(30, 5), (31, 4), (0, 0)] {
+        let untouched = (vec![u32::MAX; walls], vec![u32::MAX; loads]);
+        let (answer, walls, loads) = apart(&draft.bytes(), walls, loads);
+        assert_eq!((answer, (walls, loads)), (Packed(8 << 32), untouched));
+    }
+    draft.loads[0][2] = 2301;
+    assert_eq!(apart(&draft.bytes(), 0, 0).0, Packed(6 << 32 | 1));
 }

@@ -7,6 +7,11 @@ use std::io::Write;
 use std::process::{Command, Stdio};
 
 fn run(arguments: &[&str], input: &[u8]) -> (String, Option<i32>) {
+    let (printed, status) = run_for_bytes(arguments, input);
+    (String::from_utf8(printed).unwrap(), status)
+}
+
+fn run_for_bytes(arguments: &[&str], input: &[u8]) -> (Vec<u8>, Option<i32>) {
     let mut child = Command::new(env!("CARGO_BIN_EXE_second"))
         .args(arguments)
         .stdin(Stdio::piped())
@@ -20,10 +25,7 @@ fn run(arguments: &[&str], input: &[u8]) -> (String, Option<i32>) {
     let output = child.wait_with_output().unwrap();
     // A program that refuses its arguments need not read its input.
     let _ = writer.join().unwrap();
-    (
-        String::from_utf8(output.stdout).unwrap(),
-        output.status.code(),
-    )
+    (output.stdout, output.status.code())
 }
 
 #[test]
@@ -69,9 +71,30 @@ fn drawings_and_traits_are_one_line() {
     assert_eq!(traits.lines().count(), 1);
 }
 
+/// A file whose bytes are no text, without a line's end at its own.
+#[test]
+fn a_job_is_written_again_or_its_refusal_printed() {
+    let mut draft = case_a_draft();
+    draft.loads.push([1, 0, 2300, 199_999, 0x0a]);
+    draft.loads.push([1, 1, 0, 0, 0xff]);
+    for bytes in [case_a_bytes(), draft.bytes()] {
+        assert_eq!(run_for_bytes(&["rewrite"], &bytes), (bytes, Some(0)));
+    }
+    draft.loads[1][0] = 2;
+    let printed = run(&["rewrite"], &draft.bytes());
+    assert_eq!(printed, ("refused 6 2\n".into(), Some(0)));
+    assert_eq!(run(&["rewrite"], &[]), ("refused 1 0\n".into(), Some(0)));
+}
+
 #[test]
 fn other_arguments_are_turned_away() {
-    for arguments in [&["draw"][..], &["draw", "x"], &["draw", "-1"], &["sheet"]] {
+    for arguments in [
+        &["draw"][..],
+        &["draw", "x"],
+        &["draw", "-1"],
+        &["rewrite", "1"],
+        &["sheet"],
+    ] {
         assert_eq!(run(arguments, &case_a_bytes()), (String::new(), Some(2)));
     }
 }

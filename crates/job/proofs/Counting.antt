@@ -10,10 +10,10 @@ use lib.Dec.{T, leb, leb→le}
 use lib.ListN.{length, getD, set, replicate, length-append}
 use Rattle.rules.specs.declared.Answer.{Answer}
 use Rattle.rules.specs.declared.Answer.the-variants.{NinthLoad}
-use Rattle.rules.specs.JobFile.{File, Entry, mostLoadsOnWall, wallCount, mostWalls, entryAt, recordsFrom, walls, wallOf, loadOf, loadsOn, loadFits}
+use Rattle.rules.specs.JobFile.{Wall, Entry, mostLoadsOnWall, mostWalls, recordsFrom, wallOf, loadOf, loadsOn, loadFits}
 use Rattle.rules.specs.Answered.{isWorked, refusedIf, isThere, numbered, entryFits}
 use Rattle.rules.proofs.Accepted.{both}
-use Rattle.rules.proofs.AcceptedFile.{walls-length, loads-join}
+use Rattle.rules.proofs.AcceptedFile.{loads-join}
 use Rattle.job.specs.Refusals.{loadAnswer}
 use Rattle.job.proofs.Passed.{passedLoads, one-more, Kept, none-kept, one-kept}
 use Rattle.job.proofs.Judging.{no-refusal, loadAnswerAt}
@@ -23,12 +23,12 @@ abbrev pub countOn : List Entry → ℕ → ℕ
 countOn es n = length (loadsOn n es)
 
 -- those passed are counted
-abbrev pub Counted : File → ℕ → List ℕ → Type 0
-Counted file i counts = Kept countOn 0 (suc mostWalls) 0 (passedLoads file i) counts
+abbrev pub Counted : (ℕ → Entry) → ℕ → List ℕ → Type 0
+Counted entryAt i counts = Kept countOn 0 (suc mostWalls) 0 (passedLoads entryAt i) counts
 
-pub none-counted : (file : File) → Counted file 0 (replicate (suc mostWalls) 0)
+pub none-counted : (entryAt : ℕ → Entry) → Counted entryAt 0 (replicate (suc mostWalls) 0)
 unfolding loadsOn recordsFrom
-none-counted file = none-kept 0 (λ n. refl)
+none-counted entryAt = none-kept 0 (λ n. refl)
 
 -- one more makes no difference to any wall but its own, and there it is one more
 not-counted : (es : List Entry) (e : Entry) (n : ℕ) → (wallOf e ≡ n → ⊥) → countOn (es ++ e ∷ []) n ≡ countOn es n
@@ -40,12 +40,12 @@ unfolding loadsOn
 counted-once es e = rw (loads-join, eq-eqb (wallOf e) (wallOf e) refl, length-append)
 
 -- a load that fits is on one of the walls that there are
-has-wall : (file : File) (entry : Entry) → T (entryFits (walls file) entry) → wallOf entry ≤ wallCount file
+has-wall : (there : List Wall) (entry : Entry) → T (entryFits there entry) → wallOf entry ≤ length there
 unfolding entryFits
-has-wall file entry t =
+has-wall there entry t =
     let n = wallOf entry in
-    let there = both (isThere n (walls file)) (loadFits (numbered n (walls file)) (loadOf entry)) t .0 in
-    rw walls-length at (leb→le n (length (walls file)) (both (leb 1 n) (leb n (length (walls file))) there .1))
+    let is-there = both (isThere n there) (loadFits (numbered n there) (loadOf entry)) t .0 in
+    leb→le n (length there) (both (leb 1 n) (leb n (length there)) is-there .1)
 
 -- how many were passed matters only where the load fits
 by-count : (fits : Bool) (m n number : ℕ) → (T fits → m ≡ n) → loadAnswer fits m number ≡ loadAnswer fits n number
@@ -62,34 +62,35 @@ room-for true passed number t = (tt, go (leb mostLoadsOnWall passed) refl t)
 room-for false passed number t = absurd t
 
 -- the load at an index is met: its entry is read, those on its wall are counted, and it is answered
-pub record Met (file : File) (i : ℕ) (counts : List ℕ) (entry : Entry) (passed : ℕ) (answer : Answer) : Type 0 where
-  pub few : wallCount file ≤ mostWalls
-  pub counted : Counted file i counts
-  pub its : entry ≡ entryAt file i
+pub record Met (there : List Wall) (entryAt : ℕ → Entry) (i : ℕ) (counts : List ℕ) (entry : Entry) (passed : ℕ) (answer : Answer) : Type 0 where
+  pub few : length there ≤ mostWalls
+  pub counted : Counted entryAt i counts
+  pub its : entry ≡ entryAt i
   pub count : passed ≡ getD counts (wallOf entry) 0
-  pub answered : answer ≡ loadAnswer (entryFits (walls file) entry) passed (i + 1)
+  pub answered : answer ≡ loadAnswer (entryFits there entry) passed (i + 1)
 
-module _ {file : File} {i : ℕ} {counts : List ℕ} {entry : Entry} {passed : ℕ} {answer : Answer} (met : Met file i counts entry passed answer) where
-  right : T (entryFits (walls file) entry) → passed ≡ countOn (passedLoads file i) (wallOf entry)
+module _ {there : List Wall} {entryAt : ℕ → Entry} {i : ℕ} {counts : List ℕ} {entry : Entry} {passed : ℕ} {answer : Answer}
+    (met : Met there entryAt i counts entry passed answer) where
+  right : T (entryFits there entry) → passed ≡ countOn (passedLoads entryAt i) (wallOf entry)
   right t =
       let k : 0 + wallOf entry ≡ wallOf entry = omega arith in
-      met .count ∙ met .counted .row (wallOf entry) (omega (arith, has-wall file entry t)) ∙ rw k
+      met .count ∙ met .counted .row (wallOf entry) (omega (arith, has-wall there entry t, met .few)) ∙ rw k
 
   -- that is its answer
-  pub its-answer : answer ≡ loadAnswerAt file i
-  its-answer = met .answered ∙ rw (← met .its) (by-count (entryFits (walls file) entry) _ _ (i + 1) right)
+  pub its-answer : answer ≡ loadAnswerAt there entryAt i
+  its-answer = met .answered ∙ rw (← met .its) (by-count (entryFits there entry) _ _ (i + 1) right)
 
   module _ {worked : Bool} (told : worked ≡ isWorked answer) (e : not worked ≡ false) where
-    fits : T (entryFits (walls file) entry) × (passed < mostLoadsOnWall)
-    fits = room-for (entryFits (walls file) entry) passed (i + 1) (no-refusal (met .answered) told e)
+    fits : T (entryFits there entry) × (passed < mostLoadsOnWall)
+    fits = room-for (entryFits there entry) passed (i + 1) (no-refusal (met .answered) told e)
 
     -- where it is passed, its wall has a count, and room for it
     pub has-room : (wallOf entry ≤ mostWalls) × (passed < mostLoadsOnWall)
-    has-room = (omega (arith, has-wall file entry (fits .0)), fits .1)
+    has-room = (omega (arith, has-wall there entry (fits .0), met .few), fits .1)
 
     -- and it is counted
-    pub one-counted : Counted file (i + 1) (set counts (wallOf entry) (passed + 1))
+    pub one-counted : Counted entryAt (i + 1) (set counts (wallOf entry) (passed + 1))
     one-counted =
         let k : 0 + wallOf entry ≡ wallOf entry = omega arith in
-        rw (add-one i, one-more file i, ← met .its)
-        (one-kept not-counted (met .counted) entry (wallOf entry) (passed + 1) (omega (arith, has-room .0)) k (rw (right (fits .0)) (counted-once (passedLoads file i) entry)))
+        rw (add-one i, one-more entryAt i, ← met .its)
+        (one-kept not-counted (met .counted) entry (wallOf entry) (passed + 1) (omega (arith, has-room .0)) k (rw (right (fits .0)) (counted-once (passedLoads entryAt i) entry)))

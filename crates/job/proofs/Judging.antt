@@ -1,7 +1,7 @@
--- Walls and loads are judged one after the other, in file order: what is answered is what the first that is refused is answered.
+-- Walls and loads are judged one after the other, in their order in a file or in lent buffers: what is answered is what the first that is refused is answered.
 use mathlib.Core.Path.{_≡_, refl, sym, _∙_}
 use mathlib.Core.Bool.{Bool, true, false, not, cond}
-use mathlib.Core.List.{[]}
+use mathlib.Core.List.{List, []}
 use Prim.Native.Nat.{ℕ, zero, suc, _+_, _-_, _≤_, _<_}
 use native.Mathlib.Omega.{arith}
 use native.Mathlib.Numerals.{add-one}
@@ -10,7 +10,7 @@ use lib.Dec.{T, ltb, eqb}
 use lib.ListN.{length}
 use Rattle.rules.specs.declared.Answer.{Answer}
 use Rattle.rules.specs.declared.Answer.the-variants.{Worked, TooShort, WrongEdition, CountOutOfRange, WrongOffsetOrLength}
-use Rattle.rules.specs.JobFile.{File, Wall, Load, baseLength, wallHeight, reach, loadFits, headerBytes, edition, wallCount, mostWalls, loadCount, wallAt, entryAt, recordsFrom, walls, entries, wallOf, loadsOn}
+use Rattle.rules.specs.JobFile.{File, Wall, Load, Entry, baseLength, wallHeight, reach, loadFits, headerBytes, thisEdition, edition, wallCount, mostWalls, recordsFrom, walls, entries, wallOf, loadsOn}
 use Rattle.rules.specs.Answered.{isWorked, refusedIf, _orElse_, countsFit, offsetsAndLengthFit, wallAnswer, firstBadWall, entryFits, isOneMore, firstBadLoad, firstRefusal}
 use Rattle.rules.proofs.AcceptedFile.{walls-counted}
 use Rattle.job.specs.Lengths.{lengthsOf}
@@ -54,7 +54,7 @@ counts-passed false false false wrong t = absurd t
 
 pub few-walls : (file : File) → T (isWorked (headerAnswer file)) → wallCount file ≤ mostWalls
 few-walls file t =
-    walls-counted file (counts-passed (ltb (length file) headerBytes) (not (eqb (edition file) 1)) (countsFit file) (not (offsetsAndLengthFit file)) t) .1
+    walls-counted file (counts-passed (ltb (length file) headerBytes) (not (eqb (edition file) thisEdition)) (countsFit file) (not (offsetsAndLengthFit file)) t) .1
 
 -- ---- any records
 
@@ -92,18 +92,17 @@ module _ {all : Answer} {answer : ℕ → Answer} {n i : ℕ} (passed : Passed a
 
 -- ---- walls
 
--- what is answered of the wall at an index
-abbrev pub wallAnswerAt : File → ℕ → Answer
-wallAnswerAt file i = wallAnswer (i + 1) (wallAt file i)
+-- what is answered of the wall at an index, where it is said which stands at each
+abbrev pub wallAnswerAt : (ℕ → Wall) → ℕ → Answer
+wallAnswerAt wallAt i = wallAnswer (i + 1) (wallAt i)
 
-walls-from : (file : File) (i n : ℕ) → firstBadWall (i + 1) (recordsFrom (wallAt file) i n) ≡ firstFrom (wallAnswerAt file) i n
+walls-from : (wallAt : ℕ → Wall) (i n : ℕ) → firstBadWall (i + 1) (recordsFrom wallAt i n) ≡ firstFrom (wallAnswerAt wallAt) i n
 unfolding firstFrom firstBadWall recordsFrom
-walls-from file i zero = refl
-walls-from file i (suc n) = let k : suc (i + 1) ≡ suc i + 1 = omega arith in rw (k, walls-from file (suc i) n)
+walls-from wallAt i zero = refl
+walls-from wallAt i (suc n) = let k : suc (i + 1) ≡ suc i + 1 = omega arith in rw (k, walls-from wallAt (suc i) n)
 
-pub no-wall-passed : (file : File) → Passed (firstBadWall 1 (walls file)) (wallAnswerAt file) (wallCount file) 0
-unfolding walls
-no-wall-passed file = none-passed (walls-from file 0 (wallCount file))
+pub no-wall-passed : (wallAt : ℕ → Wall) (n : ℕ) → Passed (firstBadWall 1 (recordsFrom wallAt 0 n)) (wallAnswerAt wallAt) n 0
+no-wall-passed wallAt n = none-passed (walls-from wallAt 0 n)
 
 -- ---- loads
 
@@ -112,18 +111,19 @@ pub by-lengths : (wall : Wall) (load : Load) → loadFits (lengthsOf wall) load 
 unfolding lengthsOf baseLength wallHeight reach loadFits
 by-lengths wall load = refl
 
--- what is answered of the load at an index
-abbrev pub loadAnswerAt : File → ℕ → Answer
-loadAnswerAt file i =
-    let e = entryAt file i in loadAnswer (entryFits (walls file) e) (length (loadsOn (wallOf e) (passedLoads file i))) (i + 1)
+-- what is answered of the load at an index, against the walls that are there
+abbrev pub loadAnswerAt : List Wall → (ℕ → Entry) → ℕ → Answer
+loadAnswerAt there entryAt i =
+    let e = entryAt i in loadAnswer (entryFits there e) (length (loadsOn (wallOf e) (passedLoads entryAt i))) (i + 1)
 
-loads-from : (file : File) (i n : ℕ)
-    → firstBadLoad (walls file) (passedLoads file i) (i + 1) (recordsFrom (entryAt file) i n) ≡ firstFrom (loadAnswerAt file) i n
+loads-from : (there : List Wall) (entryAt : ℕ → Entry) (i n : ℕ)
+    → firstBadLoad there (passedLoads entryAt i) (i + 1) (recordsFrom entryAt i n) ≡ firstFrom (loadAnswerAt there entryAt) i n
 unfolding firstFrom firstBadLoad isOneMore recordsFrom
-loads-from file i zero = refl
-loads-from file i (suc n) =
-    let k : suc (i + 1) ≡ suc i + 1 = omega arith in rw (k, grouped, ← one-more file i, loads-from file (suc i) n)
+loads-from there entryAt i zero = refl
+loads-from there entryAt i (suc n) =
+    let k : suc (i + 1) ≡ suc i + 1 = omega arith in rw (k, grouped, ← one-more entryAt i, loads-from there entryAt (suc i) n)
 
-pub no-load-passed : (file : File) → Passed (firstBadLoad (walls file) [] 1 (entries file)) (loadAnswerAt file) (loadCount file) 0
-unfolding entries recordsFrom
-no-load-passed file = none-passed (loads-from file 0 (loadCount file))
+pub no-load-passed : (there : List Wall) (entryAt : ℕ → Entry) (n : ℕ)
+    → Passed (firstBadLoad there [] 1 (recordsFrom entryAt 0 n)) (loadAnswerAt there entryAt) n 0
+unfolding recordsFrom
+no-load-passed there entryAt n = none-passed (loads-from there entryAt 0 n)

@@ -20,13 +20,7 @@ pub u32-past-end : (file : File) (at : ℕ) → length file ≤ at → u32At fil
 unfolding u32At
 u32-past-end file at h = omega (arith, u16-past-end file at h, u16-past-end file (at + 2) (omega arith))
 
--- as many numbers stand there as were asked for
-pub numbers-length : (file : File) (at n : ℕ) → length (u32sAt file at n) ≡ n
-unfolding u32sAt
-numbers-length file at zero = refl
-numbers-length file at (suc n) = ap suc (numbers-length file (at + 4) n)
-
--- each of them four bytes behind the one before
+-- each number stands four bytes behind the one before
 pub number-at : (file : File) (at n k : ℕ) → k < n → getD (u32sAt file at n) k 0 ≡ u32At file (at + 4 * k)
 unfolding u32sAt
 number-at file at zero k h = absurd (omega arith)

@@ -1,5 +1,5 @@
 -- Document 01, "How strictly it is promised": no second answer fits, of each public entry.
-use Rattle.whole.proofs.OnlyOne.{Once, by-equation}
+use Rattle.whole.proofs.OnlyOne.{Once, agree, by-equation, lent, past, also}
 use Rattle.job.proofs as job
 
 pub first-refusal : Once job.first_refusal.ended job.first_refusal.Reads.Asked job.first_refusal.Reads.Learnt
@@ -16,3 +16,27 @@ places = (λ _ _. tt, λ _ _ _ _ _ _. by-equation)
 
 pub loads-at : Once job.loads_at.ended job.loads_at.Reads.Asked job.loads_at.Reads.Learnt
 loads-at = (λ _ _. tt, λ _ _ _ _ _ _. by-equation)
+
+pub take-apart : Once job.take_apart.ended job.take_apart.Reads.Asked job.take_apart.Reads.Learnt
+take-apart = (
+  λ _ _. tt,
+  λ _ _ _ _ _ _ is its.
+      let walled = is .wallsPut in
+      let loaded = is .loadsPut in (
+        λ i. record {
+          answer = agree (is .answered) (its .answered) i;
+          walls = agree (walled .counted) (its .wallsPut .counted) i;
+          loads = agree (loaded .counted) (its .loadsPut .counted) i;
+        },
+        past (also (agree (walled .holds) (its .wallsPut .holds)) (lent (agree (loaded .holds) (its .loadsPut .holds)))),
+      ),
+)
+
+pub write : Once job.write.ended job.write.Reads.Asked job.write.Reads.Learnt
+write = (
+  λ _ _. tt,
+  λ _ _ _ _ _ _ is its. (
+    λ i. record { answer = agree (is .answered) (its .answered) i; bytes = agree (is .put .counted) (its .put .counted) i },
+    past (past (lent (agree (is .put .holds) (its .put .holds)))),
+  ),
+)

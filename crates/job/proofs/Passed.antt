@@ -8,16 +8,16 @@ use borrow.Author.Tests.{eqb-true, eqb-false}
 use lib.Dec.{eqb}
 use lib.ListN.{length, getD, set, replicate, length-set, length-replicate, getD-replicate}
 use lib.Seq.{getD-set-same, getD-set-other}
-use Rattle.rules.specs.JobFile.{File, Entry, entryAt, recordsFrom, wallOf}
+use Rattle.rules.specs.JobFile.{Entry, recordsFrom, wallOf}
 use Rattle.rules.proofs.AcceptedFile.{records-more}
 
--- the entries before an index
-abbrev pub passedLoads : File → ℕ → List Entry
-passedLoads file i = recordsFrom (entryAt file) 0 i
+-- the entries before an index, where it is said which stands at each
+abbrev pub passedLoads : (ℕ → Entry) → ℕ → List Entry
+passedLoads entryAt i = recordsFrom entryAt 0 i
 
 -- the next one stands behind them
-pub one-more : (file : File) (i : ℕ) → passedLoads file (suc i) ≡ passedLoads file i ++ entryAt file i ∷ []
-one-more file i = let k : 0 + i ≡ i = omega arith in rw (records-more, k)
+pub one-more : (entryAt : ℕ → Entry) (i : ℕ) → passedLoads entryAt (suc i) ≡ passedLoads entryAt i ++ entryAt i ∷ []
+one-more entryAt i = let k : 0 + i ≡ i = omega arith in rw (records-more, k)
 
 -- a table of so many rows, the first of them a wall's with a number: each has what is made of the entries for its wall
 pub record Kept {A : Type 0} (made : List Entry → ℕ → A) (first size : ℕ) (d : A) (es : List Entry) (table : List A) : Type 0 where

@@ -79,7 +79,7 @@ other-row es e n off = rw (numbers-join, ne-eqb (wallOf e) n, append-nil)
 
 -- a table that goes along with the entries passed
 abbrev pub Placed : File → ℕ → List (List ℕ) → Type 0
-Placed file i table = Kept placesOn 1 mostWalls [] (passedLoads file i) table
+Placed file i table = Kept placesOn 1 mostWalls [] (passedLoads (entryAt file) i) table
 
 pub begun : (file : File) → Placed file 0 (replicate mostWalls (replicate mostLoadsOnWall 0))
 unfolding recordsFrom placesOn padded numbersOn
@@ -94,17 +94,17 @@ module _ (file : File) (i : ℕ) (table : List (List ℕ)) (placed : Placed file
         let number : 1 + (wallOf entry - 1) ≡ wallOf entry = omega arith in
         let there : wallOf entry - 1 < mostWalls = omega arith in
         rw (add-one, one-more, ← its)
-        (one-kept other-row placed entry _ row there number (e ∙ rw (placed .row _ there, number) (rw records-length at (its-row (passedLoads file i) entry))))
+        (one-kept other-row placed entry _ row there number (e ∙ rw (placed .row _ there, number) (rw records-length at (its-row (passedLoads (entryAt file) i) entry))))
 
     -- and otherwise none
     pub none-placed : (1 ≤ wallOf entry → wallOf entry ≤ mostWalls → ⊥) → Placed file (i + 1) table
     none-placed out = rw (add-one, one-more, ← its) (still-kept other-row placed entry (λ k h same. out (omega arith) (omega arith)))
 
   -- in the end it is the table of them all
-  pub all-placed : table ≡ placeTable (passedLoads file i)
+  pub all-placed : table ≡ placeTable (passedLoads (entryAt file) i)
   unfolding placeTable
   all-placed =
-      let made = placesOn (passedLoads file i) in
+      let made = placesOn (passedLoads (entryAt file) i) in
       ext-getD [] table (recordsFrom made 1 mostWalls) (placed .rows ∙ sym (records-length made 1 mostWalls))
       (λ k h. let l : k < mostWalls = omega (arith, placed .rows) in placed .row k l ∙ sym (record-at made 1 mostWalls k l))
 

@@ -5,14 +5,14 @@ use lib.Dec.{leb, ltb, eqb}
 use lib.ListN.{length}
 use Rattle.rules.specs.declared.Answer.{Answer}
 use Rattle.rules.specs.declared.Answer.the-variants.{TooShort, WrongEdition, CountOutOfRange, WrongOffsetOrLength, LoadOutOfRange, NinthLoad}
-use Rattle.rules.specs.JobFile.{File, headerBytes, edition, mostLoadsOnWall}
+use Rattle.rules.specs.JobFile.{File, headerBytes, thisEdition, edition, mostLoadsOnWall}
 use Rattle.rules.specs.Answered.{refusedIf, _orElse_, countsFit, offsetsAndLengthFit}
 
 -- 1 to 4
 abbrev pub headerAnswer : File → Answer
 headerAnswer file =
     refusedIf (ltb (length file) headerBytes) TooShort
-    orElse refusedIf (not (eqb (edition file) 1)) WrongEdition
+    orElse refusedIf (not (eqb (edition file) thisEdition)) WrongEdition
     orElse refusedIf (not (countsFit file)) CountOutOfRange
     orElse refusedIf (not (offsetsAndLengthFit file)) WrongOffsetOrLength
 

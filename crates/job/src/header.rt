@@ -1,11 +1,19 @@
-// The header but for its count of walls, and where the records behind it stand.
+// The header but for its count of walls, where the records behind it stand, and the header of a file that is written.
 use crate::bytes;
+use crate::records::ENTRY_BYTES;
+use crate::records::ENTRY_FIELDS;
 use record::FIELDS;
 ghost use mathlib.Core.Path.{_≡_};
-ghost use Prim.Native.Nat.{_+_, _*_, _<_, _^_};
-ghost use Rattle.rules.specs.JobFile.{headerBytes, wallBytes, edition, wallCount, firstWallOffset, loadCount, firstLoadOffset, wholeLength};
+ghost use Prim.Native.Nat.{_+_, _*_, _<_, _≤_, _^_};
+ghost use lib.ListN.{length};
+ghost use Rattle.rules.specs.JobFile.{headerBytes, wallFields, entryFields, wallBytes, mostWalls, mostLoads, edition, wallCount, firstWallOffset, loadCount, firstLoadOffset, wholeLength};
+ghost use Rattle.rules.specs.Beyond.{onto};
+ghost use Rattle.rules.specs.WrittenFile.{headerOf};
 
 pub const HEADER_BYTES: usize = 12;
+
+// The edition that is read and written.
+pub const EDITION: u16 = 1;
 
 const WALL_BYTES: usize = 4 * FIELDS;
 
@@ -51,4 +59,35 @@ pub fn entries_at(file: &[u8]) -> usize
     ensures { λ r. ⌜ (r ≡ headerBytes + wallBytes * wallCount (now (file .entry))) × (r < 2 ^ 40) ⌝ }
 {
     walls_end(crate::wall_count(file) as u32)
+}
+
+// How many numbers the records of the walls have, and those of the loads.
+pub fn wall_numbers(file: &[u8]) -> usize
+    ensures { λ r. ⌜ r ≡ wallFields * wallCount (now (file .entry)) ⌝ }
+{
+    FIELDS * (crate::wall_count(file) as usize)
+}
+
+pub fn load_numbers(file: &[u8]) -> usize
+    ensures { λ r. ⌜ r ≡ entryFields * loadCount (now (file .entry)) ⌝ }
+{
+    ENTRY_FIELDS * (load_count(file) as usize)
+}
+
+// The header of a file with so many walls and loads, at the start of what is lent.
+pub fn put_header(walls: u16, loads: u16, out: &mut [u8])
+    requires { ⌜ (walls ≤ mostWalls) × (loads ≤ mostLoads) × (headerBytes ≤ length (now out)) ⌝ }
+    ensures { λ _. ⌜ now (out .exit) ≡ onto (headerOf walls loads) (now (out .entry)) ⌝ }
+{
+    let first_load = walls_end(walls as u32);
+    let length = first_load + ENTRY_BYTES * (loads as usize);
+    let numbers = [
+        EDITION,
+        walls,
+        HEADER_BYTES as u16,
+        loads,
+        first_load as u16,
+        length as u16,
+    ];
+    bytes::put_u16s(&numbers, out);
 }

@@ -1,25 +1,38 @@
-// A job file taken apart, and its first refusal: any bytes have walls, loads of each wall, and one answer.
+// A job file taken apart, its first refusal, and a job file written: any bytes have walls, loads of each wall, and one answer, and so have any records.
+use header::HEADER_BYTES;
 use record::FIELDS;
 use record::LOAD_FIELDS;
 use record::Loads;
 use record::MOST_LOADS_ON_WALL;
 use record::Wall;
+use records::ENTRY_FIELDS;
 use records::WALL_NUMBER;
+use refusals::MOST_LOADS;
 use rules::Answer;
+use rules::Taken;
+use rules::Written;
 
 mod bytes;
 mod header;
+mod lent;
 mod records;
 mod refusals;
 mod rows;
+mod written;
 
 ghost use mathlib.Core.Path.{_≡_};
 ghost use Rattle.rules.specs.JobFile.{wallCount, wallAt, entries};
 ghost use Rattle.rules.specs.Answered.{firstRefusal};
+ghost use Rattle.rules.specs.WrittenFile.{Writes, TakesApart};
 ghost use Rattle.job.specs.Places.{placeTable, loadsAt};
 
 // How many walls a file may have.
 pub const MOST_WALLS: usize = 64;
+
+// Room for the records of any file, in numbers: of its walls, and of its loads.
+pub const WALL_ROOM: usize = FIELDS * MOST_WALLS;
+
+pub const LOAD_ROOM: usize = ENTRY_FIELDS * MOST_LOADS;
 
 // The places of a wall's loads: their numbers in the file, and 0 after the last.
 pub type PlaceRow = [u32; MOST_LOADS_ON_WALL];
@@ -85,4 +98,44 @@ pub fn loads_at(file: &[u8], row: PlaceRow) -> Loads
         loads[i] = records::load_numbered(file, row[i]);
     }
     loads
+}
+
+// Document 02, #101: a file taken apart. The records of its walls are put at the start of the one buffer, those of its loads at the start of the other,
+// and whatever stands behind them is as it was; or it is refused, and both are as they were.
+pub fn take_apart(file: &[u8], walls: &mut [u32], loads: &mut [u32]) -> Taken
+    ensures { λ r. ⌜ TakesApart (now (file .entry)) (now (walls .entry)) (now (loads .entry)) r (now (walls .exit)) (now (loads .exit)) ⌝ }
+{
+    let answer = refusals::taking_answer(file, walls.len(), loads.len());
+    if !reply::is_worked(answer) {
+        return Taken {
+            answer,
+            walls: 0,
+            loads: 0,
+        };
+    }
+    let wall_numbers = header::wall_numbers(file);
+    let load_numbers = header::load_numbers(file);
+    bytes::read_u32s(file, HEADER_BYTES, &mut walls[..wall_numbers]);
+    bytes::read_u32s(file, header::entries_at(file), &mut loads[..load_numbers]);
+    Taken {
+        answer,
+        walls: wall_numbers,
+        loads: load_numbers,
+    }
+}
+
+// Document 02, #101: the file that records make is written at the start of the buffer, and whatever stands behind it is as it was; or it is refused, and
+// the buffer is as it was.
+pub fn write(walls: &[u32], loads: &[u32], out: &mut [u8]) -> Written
+    ensures { λ r. ⌜ Writes (now (walls .entry)) (now (loads .entry)) (now (out .entry)) r (now (out .exit)) ⌝ }
+{
+    let answer = written::writing_answer(walls, loads, out.len());
+    if !reply::is_worked(answer) {
+        return Written { answer, bytes: 0 };
+    }
+    written::put_file(walls, loads, out);
+    Written {
+        answer,
+        bytes: written::file_bytes(walls, loads),
+    }
 }

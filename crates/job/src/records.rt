@@ -16,7 +16,7 @@ ghost use Rattle.rules.specs.JobFile.{wallAt, entryAt, loadOf};
 ghost use Rattle.job.specs.Lengths.{lengthsOf};
 ghost use Rattle.job.specs.Places.{loadNumbered};
 
-const ENTRY_FIELDS: usize = 1 + LOAD_FIELDS;
+pub const ENTRY_FIELDS: usize = 1 + LOAD_FIELDS;
 
 pub const ENTRY_BYTES: usize = 4 * ENTRY_FIELDS;
 

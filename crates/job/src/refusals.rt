@@ -1,6 +1,7 @@
 // Document 01, "What is answered": the tests of the header, of the walls and of the loads.
 use crate::MOST_WALLS;
 use crate::header;
+use crate::header::EDITION;
 use crate::header::HEADER_BYTES;
 use crate::records;
 use crate::records::ENTRY_BYTES;
@@ -14,16 +15,14 @@ ghost use Prim.Native.Nat.{_≤_};
 ghost use lib.ListN.{getD};
 ghost use Rattle.rules.specs.JobFile.{wallCount, mostWalls, walls, entries};
 ghost use Rattle.rules.specs.Answered.{refusedIf, _orElse_, countsFit, offsetsAndLengthFit, firstBadWall, entryFits, firstBadLoad};
+ghost use Rattle.rules.specs.WrittenFile.{takingAnswer};
 ghost use Rattle.job.specs.Refusals.{headerAnswer, loadAnswer};
 
-// The edition that is read.
-const EDITION: u16 = 1;
-
 // How many loads a file may have.
-const MOST_LOADS: usize = 512;
+pub const MOST_LOADS: usize = 512;
 
 // A refusal, where the test says so.
-fn refused_if(test: bool, refusal: Answer) -> Answer
+pub fn refused_if(test: bool, refusal: Answer) -> Answer
     ensures { λ r. ⌜ r ≡ refusedIf test refusal ⌝ }
 {
     if test { refusal } else { Answer::Worked }
@@ -105,7 +104,7 @@ fn entry_fits(file: &[u8], entry: Entry) -> bool
 }
 
 // 6 and 7: what is answered of the load with a number, by whether it fits and how many were passed on its wall.
-fn load_answer(fits: bool, passed: u32, number: u32) -> Answer
+pub fn load_answer(fits: bool, passed: u32, number: u32) -> Answer
     ensures { λ r. ⌜ r ≡ loadAnswer fits passed number ⌝ }
 {
     let out_of_range = refused_if(!fits, Answer::LoadOutOfRange(number));
@@ -117,10 +116,10 @@ fn load_answer(fits: bool, passed: u32, number: u32) -> Answer
 }
 
 // A count for each wall number, from 0 on.
-const COUNTS: usize = MOST_WALLS + 1;
+pub const COUNTS: usize = MOST_WALLS + 1;
 
 // How many loads were passed on the wall with a number; none on a wall that no file can have.
-fn count_on(counts: [u32; COUNTS], number: u32) -> u32
+pub fn count_on(counts: [u32; COUNTS], number: u32) -> u32
     ensures { λ r. ⌜ r ≡ getD counts number 0 ⌝ }
 {
     let n = number as usize;
@@ -146,4 +145,13 @@ pub fn first_bad_load(file: &[u8]) -> Answer
         counts[wall] = passed + 1;
     }
     Answer::Worked
+}
+
+// Document 02, #101: 1 to 7, and 8 last, where there is room for so many numbers of walls and of loads.
+pub fn taking_answer(file: &[u8], walls: usize, loads: usize) -> Answer
+    ensures { λ r. ⌜ r ≡ takingAnswer (now (file .entry)) walls loads ⌝ }
+{
+    let answer = crate::first_refusal(file);
+    let is_short = (walls < header::wall_numbers(file)) | (loads < header::load_numbers(file));
+    or_else(answer, refused_if(is_short, Answer::BufferTooShort))
 }

@@ -10,7 +10,7 @@ use lib.IntN.{ℤ}
 use lib.Ieee.{Float}
 use lib.ListN.{length}
 use Rattle.rules.specs.declared.Answer.{Answer}
-use Rattle.rules.specs.declared.Answer.the-variants.{Worked, TooShort, WrongEdition, CountOutOfRange, WrongOffsetOrLength, WallOutOfRange, LoadOutOfRange, NinthLoad, BufferTooShort, NoSuchWall}
+use Rattle.rules.specs.declared.Answer.the-variants.{Worked, TooShort, WrongEdition, CountOutOfRange, WrongOffsetOrLength, WallOutOfRange, LoadOutOfRange, NinthLoad, BufferTooShort, OutputTooShort, NoSuchWall}
 use Rattle.rules.specs.declared.Shape.{Shape}
 use Rattle.rules.specs.declared.Shape.the-variants.{Whole, ToeTriangle, HeelTriangle, Nothing}
 use Rattle.rules.specs.JobFile.{File}
@@ -59,6 +59,7 @@ zero-if-worked (WallOutOfRange wall) = above (WallOutOfRange wall) (omega arith)
 zero-if-worked (LoadOutOfRange load) = above (LoadOutOfRange load) (omega arith)
 zero-if-worked (NinthLoad load) = above (NinthLoad load) (omega arith)
 zero-if-worked BufferTooShort = refl
+zero-if-worked OutputTooShort = refl
 zero-if-worked (NoSuchWall wall) = above (NoSuchWall wall) (omega arith)
 
 pub zero-is-worked : {file : File} {before after : List ℤ} {r : ℕ} → CalculatesPacked file before r after

@@ -1,4 +1,4 @@
--- What C is given: an answer and a shape in one number, and a drawing's figures in a lent buffer, which document 01 has as values. A check is asked for by its bit.
+-- What C is given: an answer and what it has besides in one number, and a drawing's figures in a lent buffer, which document 01 has as values. A check is asked for by its bit.
 use Prim.Native.Nat.{ℕ, _+_, _*_, _<_, _^_}
 use mathlib.Core.Path.{_≡_}
 use mathlib.Core.Bool.{Bool, false, _&&_, cond}
@@ -18,6 +18,7 @@ use Rattle.rules.specs.Answered.{number, place, isWorked}
 use Rattle.rules.specs.SheetLine.{bit, isSet, answerTo, bufferAfter}
 use Rattle.rules.specs.Drawing.{undrawn, drawingFor}
 use Rattle.rules.specs.Beyond.{onto, figures}
+use Rattle.rules.specs.WrittenFile.{writingAnswer, bytesWritten, takingAnswer, wallsTaken, loadsTaken}
 
 abbrev pub shapeNumber : Shape → ℕ
 shapeNumber Nothing = 0
@@ -25,19 +26,19 @@ shapeNumber (Whole toe heel) = 1
 shapeNumber (ToeTriangle peak contact) = 2
 shapeNumber (HeelTriangle peak contact) = 3
 
--- the place in the low 32 bits, the number in the next 16, and the shape above them
-abbrev pub packed : Answer → Shape → ℕ
-packed answer shape = place answer + 2 ^ 32 * number answer + 2 ^ 48 * shapeNumber shape
+-- the place in the low 32 bits, the number in the next 16, and above them what the answer has besides: a shape's number, or how many bytes were written
+abbrev pub packed : Answer → ℕ → ℕ
+packed answer besides = place answer + 2 ^ 32 * number answer + 2 ^ 48 * besides
 
 -- the place has no more than its bits, so that all three can be read back (proofs/ReadsBack)
-pub record Packs (answer : Answer) (shape : Shape) (r : ℕ) : Type 0 where
-  pub is : r ≡ packed answer shape
+pub record Packs (answer : Answer) (besides r : ℕ) : Type 0 where
+  pub is : r ≡ packed answer besides
   pub fits : place answer < 2 ^ 32
 
--- ---- the sheet in numbers; it has no shape
+-- ---- the sheet in numbers; it has nothing besides
 
 pub record CalculatesPacked (file : File) (before : List ℤ) (r : ℕ) (after : List ℤ) : Type 0 where
-  pub answered : Packs (answerTo file (length before)) Nothing r
+  pub answered : Packs (answerTo file (length before)) 0 r
   pub holds : after ≡ bufferAfter file before
 
 -- ---- the drawing of wall n
@@ -59,8 +60,19 @@ figuresAfter file n before =
     cond (isWorked (given .answer)) (onto (figures given) before) before
 
 pub record DrawsPacked (file : File) (n : ℕ) (before : List Float) (r : ℕ) (after : List Float) : Type 0 where
-  pub answered : Packs (drawingTo file n (length before) .answer) (drawingTo file n (length before) .shape) r
+  pub answered : Packs (drawingTo file n (length before) .answer) (shapeNumber (drawingTo file n (length before) .shape)) r
   pub holds : after ≡ figuresAfter file n before
+
+-- ---- a job file written, with how many bytes it took, and taken apart
+
+pub record WritesPacked (walls loads before : List ℕ) (r : ℕ) (after : List ℕ) : Type 0 where
+  pub answered : Packs (writingAnswer walls loads (length before)) (length (bytesWritten walls loads (length before))) r
+  pub holds : after ≡ onto (bytesWritten walls loads (length before)) before
+
+pub record TakesApartPacked (file wallsBefore loadsBefore : List ℕ) (r : ℕ) (wallsAfter loadsAfter : List ℕ) : Type 0 where
+  pub answered : Packs (takingAnswer file (length wallsBefore) (length loadsBefore)) 0 r
+  pub wallsHeld : wallsAfter ≡ onto (wallsTaken file (length wallsBefore) (length loadsBefore)) wallsBefore
+  pub loadsHeld : loadsAfter ≡ onto (loadsTaken file (length wallsBefore) (length loadsBefore)) loadsBefore
 
 -- ---- a check by its bit
 

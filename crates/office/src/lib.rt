@@ -1,29 +1,29 @@
-// The sheet for C: the three entries of `sheet`, with one number for what each answers, and what the failures of a line say of a check. Any bytes are a
-// job, and any buffer may be lent.
+// The sheet for C: the three entries of `sheet`, a job written and taken apart, with one number for what each answers, and what the failures of a line say
+// of a check. Any bytes are a job, any numbers are records, and any buffer may be lent.
 use rules::Answer;
 use rules::Check;
 use rules::Drawn;
 use rules::Shape;
 ghost use mathlib.Core.List.{[], _∷_};
 ghost use mathlib.Core.Path.{_≡_};
-ghost use Prim.Native.Nat.{_≤_};
+ghost use Prim.Native.Nat.{_≤_, _<_, _^_};
 ghost use lib.ListN.{length};
 ghost use Rattle.rules.specs.Beyond.{Prints, onto, shapeFigures, figures};
 ghost use Rattle.rules.specs.SheetLine.{checks};
-ghost use Rattle.office.specs.Packed.{shapeNumber, Packs, figureRoom, CalculatesPacked, DrawsPacked, hasFailed};
+ghost use Rattle.office.specs.Packed.{shapeNumber, Packs, figureRoom, CalculatesPacked, DrawsPacked, WritesPacked, TakesApartPacked, hasFailed};
 
 // A refusal's number stands above the 32 bits of its place.
 const NUMBER: u64 = 1 << 32;
 
-// A shape's stands above the 16 bits of that.
-const SHAPE: u64 = 1 << 48;
+// What an answer has besides stands above the 16 bits of that: a shape's number, or how many bytes were written.
+const BESIDES: u64 = 1 << 48;
 
 // Room for the figures of any drawing.
 const FIGURE_ROOM: usize = 5;
 
 // A shape's number.
 fn shape_number(shape: Shape) -> u64
-    ensures { λ r. ⌜ r ≡ shapeNumber shape ⌝ }
+    ensures { λ r. ⌜ (r ≡ shapeNumber shape) × (r < 2 ^ 16) ⌝ }
 {
     match shape {
         Shape::Nothing => 0,
@@ -33,13 +33,14 @@ fn shape_number(shape: Shape) -> u64
     }
 }
 
-// An answer and a shape in one number.
-fn packed(answer: Answer, shape: Shape) -> u64
-    ensures { λ r. ⌜ Packs answer shape r ⌝ }
+// An answer and what it has besides, in one number.
+fn packed(answer: Answer, besides: u64) -> u64
+    requires { ⌜ besides < 2 ^ 16 ⌝ }
+    ensures { λ r. ⌜ Packs answer besides r ⌝ }
 {
     let place = reply::place_of(answer) as u64;
     let number = reply::number_of(answer) as u64;
-    place + NUMBER * number + SHAPE * shape_number(shape)
+    place + NUMBER * number + BESIDES * besides
 }
 
 // Two figures, at the start of what is lent.
@@ -81,7 +82,7 @@ fn put_figures(drawn: Drawn, out: &mut [f64])
 pub extern "C" fn office_calculate(job: &[u8], out: &mut [i64]) -> u64
     ensures { λ r. ⌜ CalculatesPacked (now (job .entry)) (now (out .entry)) r (now (out .exit)) ⌝ }
 {
-    packed(sheet::calculate(job, out), Shape::Nothing)
+    packed(sheet::calculate(job, out), 0)
 }
 
 // The sheet of a job as it is printed, at the start of the buffer, and how many bytes it took; a refusal is printed too. Without room for the text of
@@ -101,15 +102,34 @@ pub extern "C" fn office_drawing(job: &[u8], wall: u32, out: &mut [f64]) -> u64
 {
     let drawn = sheet::drawing(job, wall);
     let answer = drawn.answer;
-    let shape = drawn.shape;
+    let shape = shape_number(drawn.shape);
     if !reply::is_worked(answer) {
         return packed(answer, shape);
     }
     if out.len() < FIGURE_ROOM {
-        return packed(Answer::BufferTooShort, Shape::Nothing);
+        return packed(Answer::BufferTooShort, 0);
     }
     put_figures(drawn, out);
     packed(answer, shape)
+}
+
+// The job file that records make, at the start of the buffer, and whatever stands behind it as it was; the answer has how many bytes it took. Or a
+// refusal, and the buffer as it was.
+#[no_mangle]
+pub extern "C" fn office_write(walls: &[u32], loads: &[u32], out: &mut [u8]) -> u64
+    ensures { λ r. ⌜ WritesPacked (now (walls .entry)) (now (loads .entry)) (now (out .entry)) r (now (out .exit)) ⌝ }
+{
+    let written = job::write(walls, loads, out);
+    packed(written.answer, written.bytes as u64)
+}
+
+// The records of a job's walls and of its loads, each at the start of a buffer, and whatever stands behind them as it was; or a refusal, and both buffers
+// as they were.
+#[no_mangle]
+pub extern "C" fn office_records(job: &[u8], walls: &mut [u32], loads: &mut [u32]) -> u64
+    ensures { λ r. ⌜ TakesApartPacked (now (job .entry)) (now (walls .entry)) (now (loads .entry)) r (now (walls .exit)) (now (loads .exit)) ⌝ }
+{
+    packed(job::take_apart(job, walls, loads), 0)
 }
 
 // Is the bit of a check set in the failures of a line? The check is named by its bit; of a number that is no check's bit the answer is false.

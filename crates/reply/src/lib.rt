@@ -17,6 +17,7 @@ pub fn number_of(answer: Answer) -> u32
         Answer::LoadOutOfRange(_) => 6,
         Answer::NinthLoad(_) => 7,
         Answer::BufferTooShort => 8,
+        Answer::OutputTooShort => 9,
         Answer::NoSuchWall(_) => 18,
     }
 }
@@ -35,6 +36,7 @@ pub fn place_of(answer: Answer) -> u32
         Answer::LoadOutOfRange(load) => load,
         Answer::NinthLoad(load) => load,
         Answer::BufferTooShort => 0,
+        Answer::OutputTooShort => 0,
         Answer::NoSuchWall(wall) => wall,
     }
 }

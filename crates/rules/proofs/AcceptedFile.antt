@@ -13,7 +13,7 @@ use Rattle.whole.proofs.Lists.{of-either}
 use Rattle.rules.proofs.Accepted.{both}
 use Rattle.rules.specs.declared.Answer.{Answer}
 use Rattle.rules.specs.declared.Answer.the-variants.{TooShort, WrongEdition, CountOutOfRange, WrongOffsetOrLength, WallOutOfRange, LoadOutOfRange, NinthLoad}
-use Rattle.rules.specs.JobFile.{File, Wall, Load, Entry, edition, wallCount, loadCount, wholeLength, headerBytes, entryBytes, mostWalls, mostLoads, mostLoadsOnWall, entriesAt, wallAt, entryAt, recordsFrom, walls, entries, wallOf, loadOf, loadsOn, wallFits, loadFits}
+use Rattle.rules.specs.JobFile.{File, Wall, Load, Entry, thisEdition, edition, wallCount, loadCount, wholeLength, headerBytes, entryBytes, mostWalls, mostLoads, mostLoadsOnWall, entriesAt, wallAt, entryAt, recordsFrom, walls, entries, wallOf, loadOf, loadsOn, wallFits, loadFits}
 use Rattle.rules.specs.Answered.{isWorked, refusedIf, _orElse_, countsFit, offsetsAndLengthFit, wallAnswer, firstBadWall, isThere, numbered, entryFits, isOneMore, firstBadLoad, firstRefusal, accepted}
 
 -- ---- records in file order, and the loads of a wall among them
@@ -77,7 +77,7 @@ first-worked a b t = go (isWorked a) refl t
     go false e t = absurd (rw e at t)
 
 -- where a refusal did not come, its test does not hold
-not-refused : (test : Bool) (refusal : Answer) → isWorked refusal ≡ false → T (isWorked (refusedIf test refusal)) → T (not test)
+pub not-refused : (test : Bool) (refusal : Answer) → isWorked refusal ≡ false → T (isWorked (refusedIf test refusal)) → T (not test)
 not-refused true refusal e t = absurd (rw e at t)
 not-refused false refusal e t = tt
 
@@ -92,7 +92,7 @@ step test refusal rest e t = let h = first-worked (refusedIf (not test) refusal)
 
 -- what tests 2 to 7 leave; test 1 asks for less than test 4
 record Passed (file : File) : Type 0 where
-  one : T (eqb (edition file) 1)
+  one : T (eqb (edition file) thisEdition)
   counts : T (countsFit file)
   offsets : T (offsetsAndLengthFit file)
   noBadWall : T (isWorked (firstBadWall 1 (walls file)))
@@ -102,7 +102,7 @@ passed : (file : File) → T (accepted file) → Passed file
 unfolding firstRefusal
 passed file t =
     let past1 = first-worked (refusedIf (ltb (length file) headerBytes) TooShort) _ t .1 in
-    let past2 = step (eqb (edition file) 1) WrongEdition _ refl past1 in
+    let past2 = step (eqb (edition file) thisEdition) WrongEdition _ refl past1 in
     let past3 = step (countsFit file) CountOutOfRange _ refl (past2 .1) in
     let past4 = step (offsetsAndLengthFit file) WrongOffsetOrLength _ refl (past3 .1) in
     let past5 = first-worked (firstBadWall 1 (walls file)) _ (past4 .1) in
@@ -111,8 +111,8 @@ passed file t =
 -- ---- the header
 
 -- its edition is the one that is read
-pub edition-is : (file : File) → T (accepted file) → edition file ≡ 1
-edition-is file t = eqb→eq (edition file) 1 (passed file t .one)
+pub edition-is : (file : File) → T (accepted file) → edition file ≡ thisEdition
+edition-is file t = eqb→eq (edition file) thisEdition (passed file t .one)
 
 -- its counts are within their bounds
 pub counts-fit : (file : File) → T (accepted file) → T (countsFit file)

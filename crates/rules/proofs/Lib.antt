@@ -3,6 +3,7 @@ pub mod Accepted
 pub mod AcceptedFile
 pub mod Additive
 pub mod Bits
+pub mod Bytes
 pub mod Carries
 pub mod Divisions
 pub mod Doubles
@@ -16,10 +17,12 @@ pub mod LoadsOfWalls
 pub mod LongInput
 pub mod Moments
 pub mod NoBlock
+pub mod Pieces
 pub mod Points
 pub mod Pressures
 pub mod Putting
 pub mod Replies
+pub mod Rewritten
 pub mod Roundings
 pub mod Sections
 pub mod Sizes

@@ -11,7 +11,7 @@ use borrow.Author.Tests.{leb-true, leb-false, le-ltb, eq-eqb}
 use Rattle.whole.proofs.Lists.{All, all-at}
 use Rattle.rules.specs.declared.Answer.{Answer}
 use Rattle.rules.specs.declared.Answer.the-variants.{WrongEdition, CountOutOfRange, WrongOffsetOrLength}
-use Rattle.rules.specs.JobFile.{File, u16At, headerBytes, edition, wholeLength, wallBytes, entryBytes, mostWalls, mostLoads, entriesAt}
+use Rattle.rules.specs.JobFile.{File, u16At, headerBytes, thisEdition, edition, wholeLength, wallBytes, entryBytes, mostWalls, mostLoads, entriesAt}
 use Rattle.rules.specs.Answered.{isWorked, refusedIf, _orElse_, countsFit, offsetsAndLengthFit, firstRefusal, accepted}
 use Rattle.rules.specs.SheetLine.{printed}
 use Rattle.rules.specs.Drawing.{answerToDrawing, drawingFor}
@@ -24,7 +24,7 @@ abbrev byHeader : Bool → Bool → Answer
 byHeader one counted = refusedIf (not one) WrongEdition orElse refusedIf (not counted) CountOutOfRange orElse WrongOffsetOrLength
 
 refused-by-header : (file : File) → headerBytes ≤ length file → (T (offsetsAndLengthFit file) → ⊥)
-    → firstRefusal file ≡ byHeader (eqb (edition file) 1) (countsFit file)
+    → firstRefusal file ≡ byHeader (eqb (edition file) thisEdition) (countsFit file)
 unfolding firstRefusal
 refused-by-header file long unfit =
     rw (le-ltb (length file) headerBytes, is-false (offsetsAndLengthFit file) (not-T (offsetsAndLengthFit file) unfit))
@@ -51,9 +51,9 @@ pub not-accepted : (file : File) → longestJob < length file → T (accepted fi
 not-accepted file longer t = too-long file longer (counts-fit file t) (offsets-fit file t)
 
 -- and where its edition and its counts are right, it is refused for its length
-pub refused-for-length : (file : File) → longestJob < length file → edition file ≡ 1 → T (countsFit file) → firstRefusal file ≡ WrongOffsetOrLength
+pub refused-for-length : (file : File) → longestJob < length file → edition file ≡ thisEdition → T (countsFit file) → firstRefusal file ≡ WrongOffsetOrLength
 refused-for-length file longer one counts =
-    rw (refused-by-header file (omega arith) (too-long file longer counts), eq-eqb (edition file) 1, is-true (countsFit file))
+    rw (refused-by-header file (omega arith) (too-long file longer counts), eq-eqb (edition file) thisEdition, is-true (countsFit file))
 
 -- ---- what a program reads of its input: no fewer bytes than this, if there are as many
 
@@ -64,13 +64,13 @@ abbrev pub IsByte : ℕ → Type 0
 IsByte n = n < 256
 
 -- every number of a header is below it
-u16-small : (file : File) → All IsByte file → (at : ℕ) → u16At file at < leastRead
+pub u16-small : (file : File) → All IsByte file → (at : ℕ) → u16At file at < leastRead
 unfolding u16At
 u16-small file bytes at = omega (arith, all-at IsByte 0 (omega arith) file bytes at, all-at IsByte 0 (omega arith) file bytes (at + 1))
 
 -- so that a file of as many bytes is longer than its header says
 long-by-header : (file : File) → leastRead ≤ length file → wholeLength file < leastRead
-    → firstRefusal file ≡ byHeader (eqb (edition file) 1) (countsFit file)
+    → firstRefusal file ≡ byHeader (eqb (edition file) thisEdition) (countsFit file)
 long-by-header file long small = refused-by-header file (omega arith) (λ offsets. omega (arith, ends file offsets))
 
 module _ (read : ℕ) (enough : leastRead ≤ read) where
@@ -86,7 +86,7 @@ module _ (read : ℕ) (enough : leastRead ≤ read) where
   -- an input that isn't read to its end is refused, and so is what is read of it, for the same reason
   module _ (file : File) (bytes : All IsByte file) (long : read ≤ length file) where
     pub long-refused : isWorked (firstRefusal file) ≡ false
-    long-refused = rw (long-by-header file (omega arith) (u16-small file bytes 10)) (no-work (eqb (edition file) 1) (countsFit file))
+    long-refused = rw (long-by-header file (omega arith) (u16-small file bytes 10)) (no-work (eqb (edition file) thisEdition) (countsFit file))
 
     pub long-alike : firstRefusal (take read file) ≡ firstRefusal file
     long-alike =
@@ -97,7 +97,7 @@ module _ (read : ℕ) (enough : leastRead ≤ read) where
         rw (long-by-header start (omega arith) (omega arith), long-by-header file (omega arith) small, u16-read file 0 (omega arith), counts-read file)
 
   -- what files that are refused alike have alike, an input and what is read of it have alike
-  read-alike : {A : Type 0} (f : File → A)
+  pub read-alike : {A : Type 0} (f : File → A)
       → ((one other : File) → firstRefusal one ≡ firstRefusal other → isWorked (firstRefusal other) ≡ false → f one ≡ f other)
       → (file : File) → All IsByte file → f (take read file) ≡ f file
   read-alike f alike file bytes = go (leb read (length file)) refl

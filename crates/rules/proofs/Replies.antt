@@ -2,7 +2,7 @@
 use Prim.Native.Nat.{_<_}
 use native.Mathlib.Omega.{arith}
 use Rattle.rules.specs.declared.Answer.{Answer}
-use Rattle.rules.specs.declared.Answer.the-variants.{Worked, TooShort, WrongEdition, CountOutOfRange, WrongOffsetOrLength, WallOutOfRange, LoadOutOfRange, NinthLoad, BufferTooShort, NoSuchWall}
+use Rattle.rules.specs.declared.Answer.the-variants.{Worked, TooShort, WrongEdition, CountOutOfRange, WrongOffsetOrLength, WallOutOfRange, LoadOutOfRange, NinthLoad, BufferTooShort, OutputTooShort, NoSuchWall}
 use Rattle.rules.specs.Answered.{number}
 
 -- 18 is the last number in the table of refusals
@@ -16,4 +16,5 @@ number-below (WallOutOfRange wall) = omega arith
 number-below (LoadOutOfRange load) = omega arith
 number-below (NinthLoad load) = omega arith
 number-below BufferTooShort = omega arith
+number-below OutputTooShort = omega arith
 number-below (NoSuchWall wall) = omega arith

@@ -5,8 +5,8 @@ use mathlib.Core.List.{List, [], _∷_, _++_}
 use lib.Dec.{leb, ltb, eqb}
 use lib.ListN.{length, getD}
 use Rattle.rules.specs.declared.Answer.{Answer}
-use Rattle.rules.specs.declared.Answer.the-variants.{Worked, TooShort, WrongEdition, CountOutOfRange, WrongOffsetOrLength, WallOutOfRange, LoadOutOfRange, NinthLoad, BufferTooShort, NoSuchWall}
-use Rattle.rules.specs.JobFile.{File, Wall, Entry, headerBytes, edition, wallCount, firstWallOffset, loadCount, firstLoadOffset, wholeLength, entryBytes, mostWalls, mostLoads, mostLoadsOnWall, entriesAt, walls, entries, wallFits, wallOf, loadOf, loadFits, loadsOn}
+use Rattle.rules.specs.declared.Answer.the-variants.{Worked, TooShort, WrongEdition, CountOutOfRange, WrongOffsetOrLength, WallOutOfRange, LoadOutOfRange, NinthLoad, BufferTooShort, OutputTooShort, NoSuchWall}
+use Rattle.rules.specs.JobFile.{File, Wall, Entry, headerBytes, thisEdition, edition, wallCount, firstWallOffset, loadCount, firstLoadOffset, wholeLength, entryBytes, mostWalls, mostLoads, mostLoadsOnWall, entriesAt, walls, entries, wallFits, wallOf, loadOf, loadFits, loadsOn}
 
 -- a refusal's number; 0 says that the job is worked
 abbrev pub number : Answer → ℕ
@@ -19,6 +19,7 @@ number (WallOutOfRange wall) = 5
 number (LoadOutOfRange load) = 6
 number (NinthLoad load) = 7
 number BufferTooShort = 8
+number OutputTooShort = 9
 number (NoSuchWall wall) = 18
 
 -- its place
@@ -32,6 +33,7 @@ place (WallOutOfRange wall) = wall
 place (LoadOutOfRange load) = load
 place (NinthLoad load) = load
 place BufferTooShort = 0
+place OutputTooShort = 0
 place (NoSuchWall wall) = wall
 
 abbrev pub isWorked : Answer → Bool
@@ -96,7 +98,7 @@ firstBadLoad there passed n (entry ∷ rest) =
 unfoldable pub firstRefusal : File → Answer
 firstRefusal file =
     refusedIf (ltb (length file) headerBytes) TooShort
-    orElse refusedIf (not (eqb (edition file) 1)) WrongEdition
+    orElse refusedIf (not (eqb (edition file) thisEdition)) WrongEdition
     orElse refusedIf (not (countsFit file)) CountOutOfRange
     orElse refusedIf (not (offsetsAndLengthFit file)) WrongOffsetOrLength
     orElse firstBadWall 1 (walls file)

@@ -42,6 +42,10 @@ u32sAt file at (suc n) = u32At file at ∷ u32sAt file (at + 4) n
 abbrev pub headerBytes : ℕ
 headerBytes = 12
 
+-- the edition that is read and written
+abbrev pub thisEdition : ℕ
+thisEdition = 1
+
 abbrev pub edition : File → ℕ
 edition file = u16At file 0
 

@@ -31,8 +31,23 @@ pub enum Answer {
     // the load's number
     NinthLoad(u32),
     BufferTooShort,
+    // of a file that is to be written
+    OutputTooShort,
     // the number that was asked for
     NoSuchWall(u32),
+}
+
+// What is answered where a job file is written: the answer, and how many bytes were written; a refusal writes none.
+pub struct Written {
+    pub answer: Answer,
+    pub bytes: usize,
+}
+
+// What is answered where a job file is taken apart: the answer, and how many numbers of each lent buffer are the file's records; a refusal takes none.
+pub struct Taken {
+    pub answer: Answer,
+    pub walls: usize,
+    pub loads: usize,
 }
 
 // The totals of a wall: R and H in N, and Mrest, Mot and M6 in sixths of a N mm; where they are factored, in tenths of these.

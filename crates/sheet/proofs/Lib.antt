@@ -1,4 +1,3 @@
 pub mod Once
 pub mod Outcomes
-pub mod Pieces
 pub mod Sheets

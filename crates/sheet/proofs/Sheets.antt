@@ -27,7 +27,7 @@ use Rattle.rules.proofs.Absent.{borne-with, line-with}
 use Rattle.job.specs.Places.{placeTable, loadsAt}
 use Rattle.job.proofs.PlacesOfLoads.{absent, rows-of-wall, room-for-rows}
 use Rattle.text.proofs.Lengths.{line-most}
-use Rattle.sheet.proofs.Pieces.{joined-length}
+use Rattle.rules.proofs.Pieces.{joined-length}
 
 -- as many as there are walls
 lines-length : (n : ℕ) (there : List Wall) (its : List Entry) → length (linesFrom n there its) ≡ length there

@@ -3,7 +3,7 @@
 --     Once ended Asked Learnt   any call may be made, and two outcomes of one call that both fit are equal
 --     by-equation               of a function that is lent nothing to write, whose answer equals a value
 --     agree                     what equals a value is the only one that does
---     lent, past                last values that differ in one parameter alone: `lent` at that parameter, and a `past` for each in front of it
+--     lent, past, also          last values that differ in a parameter alone: `lent` at that parameter, and a `past` for each in front of it, or an `also` where that differs too
 use mathlib.Core.Path.{_≡_, refl, sym, _∙_}
 use contract.Lifetimes.{Lfts}
 use denote.Triple.Entry.{Args, Res}
@@ -37,3 +37,6 @@ lent {rest = rest} same = λ i. (same i, rest)
 
 pub past : {A B : Type 0} {first : A} {one other : B} → one ≡ other → _≡_ {A = A × B} (first, one) (first, other)
 past {first = first} same = λ i. (first, same i)
+
+pub also : {A B : Type 0} {one other : A} {rest next : B} → one ≡ other → rest ≡ next → _≡_ {A = A × B} (one, rest) (other, next)
+also same behind = λ i. (same i, behind i)

@@ -1,15 +1,18 @@
 //! The office library held to this program, job by job: every answer, every
-//! number of what was lent and around it, and the job itself, which must stay.
+//! number of what was lent and around it, and what was given to be read, which
+//! must stay.
 
+mod buffers;
 mod run;
 mod tally;
 mod twins;
+mod writing;
 
 pub use run::{run, Ended, Found, Until, Wish};
 pub use tally::Tally;
 
 use crate::answers::accept;
-use crate::job_file::{Header, MOST_WALLS};
+use crate::job_file::{Header, LOAD_FIELDS, MOST_BYTES, MOST_LOADS, MOST_WALLS, WALL_FIELDS};
 use crate::office::{Office, Packed, Second, DRAWING_ROOM, TEXT_ROOM};
 use crate::random::Random;
 use crate::sheet_line::{work_job, CHECKS, LINE_NUMBERS, NO_SERVICE_BLOCK, OVER_ALLOWABLE};
@@ -38,6 +41,9 @@ pub struct Comparer<'a, O> {
     numbers: Twins<i64>,
     letters: Twins<u8>,
     figures: Twins<f64>,
+    walls: Twins<u32>,
+    loads: Twins<u32>,
+    files: Twins<u8>,
     tally: Tally,
 }
 
@@ -48,6 +54,9 @@ impl<'a, O: Office> Comparer<'a, O> {
             numbers: Twins::new(LINE_NUMBERS * MOST_WALLS + MORE),
             letters: Twins::new(TEXT_ROOM),
             figures: Twins::new(DRAWING_ROOM + 2),
+            walls: Twins::new(WALL_FIELDS * MOST_WALLS + MORE),
+            loads: Twins::new(LOAD_FIELDS * MOST_LOADS + MORE),
+            files: Twins::new(MOST_BYTES + MORE),
             tally: Tally::default(),
         }
     }
@@ -57,7 +66,8 @@ impl<'a, O: Office> Comparer<'a, O> {
     }
 
     /// Takes one job through every entry, or says what differs. Chance settles
-    /// how much more room is lent and which of many walls are drawn.
+    /// how much more room is lent, which of many walls are drawn and how records
+    /// are changed that are to be written.
     pub fn hold(&mut self, job: &[u8], random: &mut Random) -> Result<(), String> {
         let accepted = accept(job);
         let exact = LINE_NUMBERS * walls_said(job);
@@ -73,6 +83,7 @@ impl<'a, O: Office> Comparer<'a, O> {
                 self.hold_drawing(job, wall, room)?;
             }
         }
+        self.hold_writing(job, accepted.is_ok(), random)?;
         let worked = accepted.map(|job| work_job(&job));
         let walls = worked.iter().flatten().map(|wall| wall.failures);
         for failures in walls.chain(NO_FAILURES) {

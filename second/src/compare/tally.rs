@@ -6,8 +6,12 @@ use crate::office::Packed;
 use crate::sheet_line::Worked;
 use std::fmt;
 
-/// Numbers of answers: 0 for a success, 1 to 8 and 18 for refusals.
+/// Numbers of answers: 0 for a success, 1 to 9 and 18 for refusals.
 const ANSWERS: usize = 19;
+
+/// The refusals that any job may get, and those that any records may.
+const OF_A_JOB: &[usize] = &[1, 2, 3, 4, 5, 6, 7];
+const OF_RECORDS: &[usize] = &[3, 5, 6, 7, 9];
 
 #[derive(Clone, Debug, Default, PartialEq, Eq)]
 pub struct Tally {
@@ -23,6 +27,12 @@ pub struct Tally {
     drawings: [u64; ANSWERS],
     /// Calls for a check, by whether its bit is set.
     asked: [u64; 2],
+    /// Calls of records, by their answer, and jobs written again.
+    taken_apart: [u64; ANSWERS],
+    written_again: u64,
+    /// Calls of write, by their answer, and records read back.
+    written: [u64; ANSWERS],
+    read_back: u64,
     /// Walls, by their blocks and by the bits that are set.
     service: [u64; BLOCKS.len()],
     factored: [u64; BLOCKS.len()],
@@ -104,6 +114,22 @@ impl Tally {
         count(&mut self.asked, usize::from(set));
     }
 
+    pub fn count_records(&mut self, answer: Packed) {
+        count(&mut self.taken_apart, answer.number() as usize);
+    }
+
+    pub fn count_written_again(&mut self) {
+        self.written_again += 1;
+    }
+
+    pub fn count_write(&mut self, answer: Packed) {
+        count(&mut self.written, answer.number() as usize);
+    }
+
+    pub fn count_read_back(&mut self) {
+        self.read_back += 1;
+    }
+
     pub fn jobs(&self) -> u64 {
         self.jobs.iter().sum()
     }
@@ -116,19 +142,23 @@ impl Tally {
         add(&mut self.shapes, &other.shapes);
         add(&mut self.drawings, &other.drawings);
         add(&mut self.asked, &other.asked);
+        add(&mut self.taken_apart, &other.taken_apart);
+        self.written_again += other.written_again;
+        add(&mut self.written, &other.written);
+        self.read_back += other.read_back;
         add(&mut self.service, &other.service);
         add(&mut self.factored, &other.factored);
         add(&mut self.bits, &other.bits);
     }
 }
 
-/// "refused with 1: 20, 2: 19", the numbers that were met or that every job
-/// may get.
-fn refusals(counts: &[u64; ANSWERS]) -> String {
-    let met = |number: &usize| counts[*number] > 0 || *number < 8;
+/// "worked 20; refused with 1: 19, 2: 18", with the refusals that are always
+/// named and any other that was met.
+fn answers(success: &str, counts: &[u64; ANSWERS], always: &[usize]) -> String {
+    let met = |number: &usize| counts[*number] > 0 || always.contains(number);
     let each = (1..ANSWERS).filter(met);
     let words: Vec<String> = each.map(|n| format!("{n}: {}", counts[n])).collect();
-    format!("refused with {}", words.join(", "))
+    format!("{success}; refused with {}", words.join(", "))
 }
 
 /// "full 20, toe triangle 19".
@@ -144,42 +174,53 @@ fn bits(counts: &[u64; 8]) -> String {
     words.join(", ")
 }
 
-/// The rows of a table to paste into a document.
-impl fmt::Display for Tally {
-    fn fmt(&self, out: &mut fmt::Formatter<'_>) -> fmt::Result {
-        let (jobs, walls) = (&self.jobs, self.walls);
-        let rows = [
-            (
-                "jobs",
-                format!("worked {}, with {walls} walls; {}", jobs[0], refusals(jobs)),
-            ),
+impl Tally {
+    /// The names of the table's rows, and what stands in them.
+    fn rows(&self) -> [(&'static str, String); 10] {
+        let jobs = format!("worked {}, with {} walls", self.jobs[0], self.walls);
+        let calculated = format!("worked {}", self.calculated[0]);
+        let shapes = named(&SHAPES, &self.shapes);
+        let apart = format!(
+            "taken apart {}, written again {}",
+            self.taken_apart[0], self.written_again
+        );
+        let written = format!("written {}, read back {}", self.written[0], self.read_back);
+        [
+            ("jobs", answers(&jobs, &self.jobs, OF_A_JOB)),
             (
                 "calls of calculate",
-                format!(
-                    "worked {}; {}",
-                    self.calculated[0],
-                    refusals(&self.calculated)
-                ),
+                answers(&calculated, &self.calculated, OF_A_JOB),
             ),
             ("calls of text", self.texts.to_string()),
             (
                 "calls of drawing",
-                format!(
-                    "{}; {}",
-                    named(&SHAPES, &self.shapes),
-                    refusals(&self.drawings)
-                ),
+                answers(&shapes, &self.drawings, OF_A_JOB),
             ),
             (
                 "calls of has_failed",
                 named(&["false", "true"], &self.asked),
             ),
+            (
+                "calls of records",
+                answers(&apart, &self.taken_apart, OF_A_JOB),
+            ),
+            (
+                "calls of write",
+                answers(&written, &self.written, OF_RECORDS),
+            ),
             ("service block, in walls", named(&BLOCKS, &self.service)),
             ("factored block, in walls", named(&BLOCKS, &self.factored)),
             ("bits set, in walls", bits(&self.bits)),
-        ];
+        ]
+    }
+}
+
+/// The rows of a table to paste into a document.
+impl fmt::Display for Tally {
+    fn fmt(&self, out: &mut fmt::Formatter<'_>) -> fmt::Result {
         writeln!(out, "| | |\n|---|---|")?;
-        rows.iter()
+        self.rows()
+            .iter()
             .try_for_each(|(name, words)| writeln!(out, "| {name} | {words} |"))
     }
 }

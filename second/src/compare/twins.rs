@@ -28,6 +28,21 @@ impl Cell for i64 {
     }
 }
 
+impl Cell for u32 {
+    /// Above every number that a record may hold.
+    fn marked(place: usize) -> u32 {
+        u32::MAX - 7919 * place as u32
+    }
+
+    fn bits(self) -> u64 {
+        u64::from(self)
+    }
+
+    fn shown(self) -> String {
+        self.to_string()
+    }
+}
+
 impl Cell for u8 {
     /// Above every letter that is printed.
     fn marked(place: usize) -> u8 {

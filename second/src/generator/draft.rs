@@ -84,14 +84,16 @@ pub fn ends(wall: &RawWall, index: usize) -> (u32, u32) {
     }
 }
 
-/// h, mm.
+/// h, mm; of fields far past their ranges, no more than a u32 holds.
 pub fn crest(wall: &RawWall) -> u32 {
-    wall[field::STEM_HEIGHT] + wall[field::BASE_THICKNESS]
+    wall[field::STEM_HEIGHT].saturating_add(wall[field::BASE_THICKNESS])
 }
 
-/// l, mm.
+/// l, mm; of fields far past their ranges, no more than a u32 holds.
 pub fn length(wall: &RawWall) -> u32 {
-    wall[field::TOE] + wall[field::STEM_THICKNESS] + wall[field::HEEL]
+    wall[field::TOE]
+        .saturating_add(wall[field::STEM_THICKNESS])
+        .saturating_add(wall[field::HEEL])
 }
 
 /// Ranges of a wall an engineer might send, in the order of the fields; the

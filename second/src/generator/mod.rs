@@ -7,6 +7,8 @@ mod refused;
 mod seek;
 mod valid;
 
+pub use refused::{out_of_range, spoil_load, LOAD_WAYS};
+
 use crate::random::Random;
 
 /// What is known of a sample by the way it was made.

@@ -7,7 +7,7 @@ use super::draft::{
 };
 use super::{Due, Sample};
 use crate::job_file::{
-    field, Range, RawLoad, LOAD_BYTES, MOST_LOADS, MOST_LOADS_A_WALL, MOST_WALLS, RANGES,
+    field, Range, RawLoad, RawWall, LOAD_BYTES, MOST_LOADS, MOST_LOADS_A_WALL, MOST_WALLS, RANGES,
     WALL_BYTES, WALL_FIELDS,
 };
 use crate::random::Random;
@@ -158,14 +158,14 @@ fn length_fits_input_only(draft: &Draft) -> Vec<u8> {
 }
 
 /// A value just out of a field's range: below it, or above it.
-fn out_of_range(draft: &Draft, wall: usize, place: usize, below: bool) -> u32 {
-    let (low, high) = ends(&draft.walls[wall], place);
+pub fn out_of_range(wall: &RawWall, place: usize, below: bool) -> u32 {
+    let (low, high) = ends(wall, place);
     match (RANGES[place], below) {
         // Between two bars, and past the last.
         (Range::Bar, true) => 14,
         (Range::Bar, false) => 41,
         (_, true) => low.checked_sub(1).unwrap_or(u32::MAX),
-        (_, false) => high + 1,
+        (_, false) => high.saturating_add(1),
     }
 }
 
@@ -175,7 +175,7 @@ pub fn wall(random: &mut Random, index: usize) -> Sample {
     let mut draft = valid(random, 3, 1);
     let bad = random.below(3);
     let place = index / 2 % WALL_FIELDS;
-    draft.walls[bad][place] = out_of_range(&draft, bad, place, index.is_multiple_of(2));
+    draft.walls[bad][place] = out_of_range(&draft.walls[bad], place, index.is_multiple_of(2));
     match index % 7 {
         3 => draft.loads[0][0] = 0,
         4 => draft.loads = vec![draft.loads[0]; MOST_LOADS_A_WALL + 1],
@@ -185,18 +185,22 @@ pub fn wall(random: &mut Random, index: usize) -> Sample {
     refused(draft.bytes(), 5, bad + 1)
 }
 
-/// Spoils a load in one of the ways there are.
-fn spoil_load(draft: &Draft, load: &mut RawLoad, way: usize) {
-    let walls = draft.walls.len() as u32;
-    let on = draft.walls[load[0] as usize - 1];
+/// How many ways there are of spoiling a load.
+pub const LOAD_WAYS: usize = 12;
+
+/// Spoils a load in one of them. Of one that stands on no wall already, the
+/// position is spoilt as on the last one.
+pub fn spoil_load(walls: &[RawWall], load: &mut RawLoad, way: usize) {
+    let on = walls.get((load[0] as usize).wrapping_sub(1));
+    let on = on.or(walls.last()).unwrap_or(&[0; WALL_FIELDS]);
     match way {
         0 => load[0] = 0,
-        1 => load[0] = walls + 1,
+        1 => load[0] = walls.len() as u32 + 1,
         2 => load[0] = u32::MAX,
         3 => load[1] = 2,
         4 => load[1] = u32::MAX,
-        5 => (load[1], load[2]) = (DOWN, length(&on) + 1),
-        6 => (load[1], load[2]) = (ACROSS, crest(&on) + 1),
+        5 => (load[1], load[2]) = (DOWN, length(on).saturating_add(1)),
+        6 => (load[1], load[2]) = (ACROSS, crest(on).saturating_add(1)),
         7 => load[2] = u32::MAX,
         8 => load[3] = 200_001,
         9 => load[4] = 200_001,
@@ -210,13 +214,13 @@ fn spoil_load(draft: &Draft, load: &mut RawLoad, way: usize) {
 pub fn load(random: &mut Random, index: usize) -> Sample {
     let mut draft = valid(random, 2, 3);
     let bad = random.below(draft.loads.len());
-    match index / 12 % 3 {
+    match index / LOAD_WAYS % 3 {
         1 if bad + 1 < draft.loads.len() => draft.loads[bad + 1][0] = 0,
         2 => draft.loads.extend([draft.loads[0]; MOST_LOADS_A_WALL + 1]),
         _ => {}
     }
     let mut spoilt = draft.loads[bad];
-    spoil_load(&draft, &mut spoilt, index % 12);
+    spoil_load(&draft.walls, &mut spoilt, index % LOAD_WAYS);
     draft.loads[bad] = spoilt;
     refused(draft.bytes(), 6, bad + 1)
 }
@@ -235,7 +239,7 @@ fn nine_loads(random: &mut Random) -> Draft {
 pub fn ninth(random: &mut Random, index: usize) -> Sample {
     let mut draft = nine_loads(random);
     let mut spoilt = draft.loads[8];
-    spoil_load(&draft, &mut spoilt, index / 9 % 12);
+    spoil_load(&draft.walls, &mut spoilt, index / 9 % LOAD_WAYS);
     match index % 9 {
         0 => refused(draft.bytes(), 7, 9),
         // 6 and 7 on the same load.

@@ -4,7 +4,7 @@ use mathlib.Core.Path.{_≡_, sym}
 use native.Mathlib.Omega.{arith}
 use lib.ListN.{length}
 use Rattle.rules.specs.SheetLine.{lineNumbers, sheet}
-use Rattle.sheet.proofs.Pieces.{Pieced, none-put, room-behind, one-further, all-put}
+use Rattle.rules.proofs.Pieces.{Pieced, none-put, room-behind, one-further, all-put}
 use Rattle.sheet.proofs.Sheets.{Passing, none-passed, one-passed, next-wall, sheet-length, line-sixteen}
 use Rattle.sheet.proofs.put_lines.Statement.{statement}
 use Rattle.sheet.proofs.put_lines.Tie as tie

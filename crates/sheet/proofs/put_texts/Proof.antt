@@ -8,7 +8,7 @@ use Rattle.rules.specs.Answered.{accepted}
 use Rattle.rules.specs.SheetLine.{sheet, lineText, printed}
 use Rattle.rules.specs.Beyond.{lineRoom, sheetRoom, Put}
 use Rattle.rules.proofs.Putting.{behind}
-use Rattle.sheet.proofs.Pieces.{Pieced, none-put, room-behind, one-further, all-put}
+use Rattle.rules.proofs.Pieces.{Pieced, none-put, room-behind, one-further, all-put}
 use Rattle.sheet.proofs.Sheets.{Passing, none-passed, one-passed, next-wall, sheet-length, text-put}
 use Rattle.sheet.proofs.put_texts.Statement.{statement}
 use Rattle.sheet.proofs.put_texts.Tie as tie

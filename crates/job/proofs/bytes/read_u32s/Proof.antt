@@ -4,7 +4,8 @@ use Prim.Native.Nat.{_-_}
 use native.Mathlib.Omega.{arith}
 use Rattle.whole.proofs.Indexed.{Filled, none-filled, one-more, all-filled}
 use Rattle.rules.specs.JobFile.{u32sAt}
-use Rattle.job.proofs.Numbers.{numbers-length, number-at}
+use Rattle.rules.proofs.Bytes.{u32s-count}
+use Rattle.job.proofs.Numbers.{number-at}
 use Rattle.job.proofs.bytes.read_u32s.Statement.{statement}
 use Rattle.job.proofs.bytes.read_u32s.Tie as tie
 
@@ -15,7 +16,7 @@ abbrev μ-loop : tie.MeasureT-loop
 μ-loop file at numbers₀ k₀ end numbers k = end - k
 
 loop-holds : tie.Need-loop-holds Inv-loop μ-loop
-loop-holds c = none-filled (numbers-length _ _ _) refl
+loop-holds c = none-filled (u32s-count _ _ _) refl
 
 loop-again : tie.Need-loop-again Inv-loop μ-loop
 loop-again c =

@@ -3,7 +3,8 @@ use mathlib.Core.List.{[]}
 use Prim.Native.Nat.{_-_, _≤_, _<_}
 use native.Mathlib.Omega.{arith}
 use lib.ListN.{getD}
-use Rattle.rules.specs.JobFile.{mostWalls, mostLoadsOnWall, walls, entries}
+use Rattle.rules.specs.JobFile.{mostWalls, mostLoadsOnWall, entryAt, walls, entries}
+use Rattle.rules.proofs.AcceptedFile.{walls-length}
 use Rattle.rules.specs.Answered.{firstBadLoad}
 use Rattle.job.proofs.Judging.{Passed, all-passed, refused, one-passed, loadAnswerAt, no-load-passed}
 use Rattle.job.proofs.Counting.{Counted, none-counted, Met, its-answer, has-room, one-counted}
@@ -11,13 +12,14 @@ use Rattle.job.proofs.refusals.first_bad_load.Statement.{statement}
 use Rattle.job.proofs.refusals.first_bad_load.Tie as tie
 
 abbrev Inv-loop : tie.InvT-loop
-Inv-loop file loads counts₀ i₀ counts i = Passed (firstBadLoad (walls file) [] 1 (entries file)) (loadAnswerAt file) loads i × Counted file i counts
+Inv-loop file loads counts₀ i₀ counts i = Passed (firstBadLoad (walls file) [] 1 (entries file)) (loadAnswerAt (walls file) (entryAt file)) loads i × Counted (entryAt file) i counts
 
 abbrev μ-loop : tie.MeasureT-loop
 μ-loop file loads counts₀ i₀ counts i = loads - i
 
 loop-holds : tie.Need-loop-holds Inv-loop μ-loop
-loop-holds c = (rw (c .load-count .ensures) (no-load-passed _), none-counted _)
+unfolding entries
+loop-holds c = (rw (c .load-count .ensures) (no-load-passed _ _ _), none-counted _)
 
 -- where the turn of a load that is judged began
 abbrev turn : (c : tie.After-is-worked Inv-loop μ-loop) → tie.In-loop Inv-loop μ-loop
@@ -25,12 +27,13 @@ turn c = c .before .before .before .before .before
 
 -- the load that is answered
 met : (c : tie.After-load-answer Inv-loop μ-loop) → let counted = c .before .before in let loop = counted .before .before .before in
-    Met (loop .before .before .before .args .file .now) (loop .loop .i) (loop .loop .counts) (counted .before .entry-at .result) (counted .count-on .result) (c .load-answer .result)
+    let file = loop .before .before .before .args .file .now in
+    Met (walls file) (entryAt file) (loop .loop .i) (loop .loop .counts) (counted .before .entry-at .result) (counted .count-on .result) (c .load-answer .result)
 met c =
     let counted = c .before .before in
     let loop = counted .before .before .before in
     record {
-      few = loop .before .before .before .pre;
+      few = rw walls-length (loop .before .before .before .pre);
       counted = loop .loop .inv .1;
       its = counted .before .entry-at .ensures;
       count = counted .count-on .ensures;

@@ -1,20 +1,21 @@
 -- `job::refusals::first_bad_wall` meets its contract. The invariant: the walls before the index were passed.
 use Prim.Native.Nat.{_-_}
 use native.Mathlib.Omega.{arith}
-use Rattle.rules.specs.JobFile.{walls}
+use Rattle.rules.specs.JobFile.{wallAt, walls}
 use Rattle.rules.specs.Answered.{firstBadWall}
 use Rattle.job.proofs.Judging.{Passed, all-passed, refused, one-passed, wallAnswerAt, no-wall-passed}
 use Rattle.job.proofs.refusals.first_bad_wall.Statement.{statement}
 use Rattle.job.proofs.refusals.first_bad_wall.Tie as tie
 
 abbrev Inv-loop : tie.InvT-loop
-Inv-loop file count i₀ i = Passed (firstBadWall 1 (walls file)) (wallAnswerAt file) count i
+Inv-loop file count i₀ i = Passed (firstBadWall 1 (walls file)) (wallAnswerAt (wallAt file)) count i
 
 abbrev μ-loop : tie.MeasureT-loop
 μ-loop file count i₀ i = count - i
 
 loop-holds : tie.Need-loop-holds Inv-loop μ-loop
-loop-holds c = rw (c .wall-count .ensures) (no-wall-passed _)
+unfolding walls
+loop-holds c = rw (c .wall-count .ensures) (no-wall-passed _ _)
 
 returns : tie.Need-returns Inv-loop μ-loop
 returns c =

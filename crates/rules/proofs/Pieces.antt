@@ -1,4 +1,4 @@
--- Pieces put one behind the other into a lent buffer: the lines of a sheet, and their texts.
+-- Pieces put one behind the other into a lent buffer: the lines of a sheet, their texts, and the numbers of a file that is written.
 use Prim.Native.Nat.{ℕ, zero, suc, _+_, _*_, _≤_, _<_}
 use mathlib.Core.Path.{_≡_, refl, sym, ap, _∙_}
 use mathlib.Core.List.{List, [], _∷_, _++_, append-assoc, append-nil}

@@ -1,0 +1,45 @@
+// Document 02, #101: what is answered where the file that records make is written, and the file put into a lent buffer that has the room.
+use crate::bytes;
+use crate::header;
+use crate::header::HEADER_BYTES;
+use crate::lent;
+use crate::refusals;
+use rules::Answer;
+ghost use mathlib.Core.Path.{_≡_};
+ghost use Prim.Native.Nat.{_≤_};
+ghost use lib.Dec.{T};
+ghost use lib.ListN.{length};
+ghost use Rattle.rules.specs.Beyond.{onto};
+ghost use Rattle.rules.specs.WrittenFile.{fileOf, recordsFit, writingAnswer};
+
+// How many bytes the file has: a number takes four.
+pub fn file_bytes(walls: &[u32], loads: &[u32]) -> usize
+    requires { ⌜ T (recordsFit (now walls) (now loads)) ⌝ }
+    ensures { λ r. ⌜ r ≡ length (fileOf (now (walls .entry)) (now (loads .entry))) ⌝ }
+{
+    HEADER_BYTES + 4 * walls.len() + 4 * loads.len()
+}
+
+// 3, 5, 6 and 7, and 9 last, where there is room for so many bytes.
+pub fn writing_answer(walls: &[u32], loads: &[u32], room: usize) -> Answer
+    ensures { λ r. ⌜ r ≡ writingAnswer (now (walls .entry)) (now (loads .entry)) room ⌝ }
+{
+    let answer = lent::records_answer(walls, loads);
+    if !reply::is_worked(answer) {
+        return answer;
+    }
+    refusals::refused_if(room < file_bytes(walls, loads), Answer::OutputTooShort)
+}
+
+// The header, the walls behind it, and the loads behind these.
+pub fn put_file(walls: &[u32], loads: &[u32], out: &mut [u8])
+    requires { ⌜ T (recordsFit (now walls) (now loads)) × (length (fileOf (now walls) (now loads)) ≤ length (now out)) ⌝ }
+    ensures { λ _. ⌜ now (out .exit) ≡ onto (fileOf (now (walls .entry)) (now (loads .entry))) (now (out .entry)) ⌝ }
+{
+    let end = HEADER_BYTES + 4 * walls.len();
+    let wall_count = lent::wall_count(walls) as u16;
+    let load_count = lent::load_count(loads) as u16;
+    header::put_header(wall_count, load_count, out);
+    bytes::put_u32s(walls, &mut out[HEADER_BYTES..]);
+    bytes::put_u32s(loads, &mut out[end..]);
+}
