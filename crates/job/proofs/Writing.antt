@@ -14,7 +14,7 @@ use Rattle.rules.specs.Answered.{isWorked}
 use Rattle.rules.specs.SheetLine.{joined}
 use Rattle.rules.specs.Beyond.{onto, Put}
 use Rattle.rules.specs.WrittenFile.{fileOf, writingAnswer, bytesWritten, Writes, takingAnswer, wallsTaken, loadsTaken, TakesApart}
-use Rattle.rules.proofs.Putting.{behind, withBack, no-text, left-behind}
+use Rattle.rules.proofs.Putting.{behind, withBack, no-text}
 use Rattle.rules.proofs.Rewritten.{walls-joined, entries-joined, walls-numbers, entries-numbers, taken-fits}
 use Rattle.rules.proofs.Pieces.{Pieced, none-put, room-behind, one-further, all-put}
 
@@ -56,12 +56,6 @@ module _ {bytesOf : ℕ → File} {size : ℕ} {numbers before : List ℕ} where
     -- at last all are put
     pub all-numbers : length numbers ≤ k → out ≡ onto (joined (map bytesOf numbers)) before
     all-numbers h = all-put (so-far .pieced) (omega (arith, length-map numbers bytesOf)) .holds
-
--- ---- the file that records make
-
--- behind a text there is the room that it leaves
-pub put-room : {text before after : List ℕ} {n m : ℕ} → Put text before n after → n + m ≤ length before → m ≤ length (behind n after)
-put-room h room = omega (arith, h .counted, left-behind h (omega (arith, h .counted)))
 
 -- ---- how a writing ends
 

@@ -63,13 +63,13 @@ pub fn entries_at(file: &[u8]) -> usize
 
 // How many numbers the records of the walls have, and those of the loads.
 pub fn wall_numbers(file: &[u8]) -> usize
-    ensures { λ r. ⌜ r ≡ wallFields * wallCount (now (file .entry)) ⌝ }
+    ensures { λ r. ⌜ (r ≡ wallFields * wallCount (now (file .entry))) × (r < 2 ^ 40) ⌝ }
 {
     FIELDS * (crate::wall_count(file) as usize)
 }
 
 pub fn load_numbers(file: &[u8]) -> usize
-    ensures { λ r. ⌜ r ≡ entryFields * loadCount (now (file .entry)) ⌝ }
+    ensures { λ r. ⌜ (r ≡ entryFields * loadCount (now (file .entry))) × (r < 2 ^ 40) ⌝ }
 {
     ENTRY_FIELDS * (load_count(file) as usize)
 }

@@ -34,6 +34,9 @@ pub const WALL_ROOM: usize = FIELDS * MOST_WALLS;
 
 pub const LOAD_ROOM: usize = ENTRY_FIELDS * MOST_LOADS;
 
+// Room for any file, in bytes.
+pub const FILE_ROOM: usize = HEADER_BYTES + 4 * WALL_ROOM + 4 * LOAD_ROOM;
+
 // The places of a wall's loads: their numbers in the file, and 0 after the last.
 pub type PlaceRow = [u32; MOST_LOADS_ON_WALL];
 

@@ -11,10 +11,11 @@ use borrow.Author.Tests.{leb-true, leb-false, le-ltb, eq-eqb}
 use Rattle.whole.proofs.Lists.{All, all-at}
 use Rattle.rules.specs.declared.Answer.{Answer}
 use Rattle.rules.specs.declared.Answer.the-variants.{WrongEdition, CountOutOfRange, WrongOffsetOrLength}
-use Rattle.rules.specs.JobFile.{File, u16At, headerBytes, thisEdition, edition, wholeLength, wallBytes, entryBytes, mostWalls, mostLoads, entriesAt}
+use Rattle.rules.specs.JobFile.{File, u16At, headerBytes, thisEdition, edition, wholeLength, entriesAt}
 use Rattle.rules.specs.Answered.{isWorked, refusedIf, _orElse_, countsFit, offsetsAndLengthFit, firstRefusal, accepted}
 use Rattle.rules.specs.SheetLine.{printed}
 use Rattle.rules.specs.Drawing.{answerToDrawing, drawingFor}
+use Rattle.rules.specs.WrittenFile.{fileRoom}
 use Rattle.rules.proofs.AcceptedFile.{offsets-fit, counts-fit, walls-counted, loads-counted, ends}
 
 -- ---- files that test 4 doesn't pass
@@ -37,21 +38,17 @@ no-work false counted = refl
 
 -- ---- longer than any job
 
--- as many walls and loads as there may be
-abbrev pub longestJob : ℕ
-longestJob = headerBytes + wallBytes * mostWalls + entryBytes * mostLoads
-
 -- counts that are right give no greater length
-too-long : (file : File) → longestJob < length file → T (countsFit file) → T (offsetsAndLengthFit file) → ⊥
+too-long : (file : File) → fileRoom < length file → T (countsFit file) → T (offsetsAndLengthFit file) → ⊥
 unfolding entriesAt
 too-long file longer counts offsets = omega (arith, walls-counted file counts, loads-counted file counts, ends file offsets)
 
 -- a longer input is not accepted
-pub not-accepted : (file : File) → longestJob < length file → T (accepted file) → ⊥
+pub not-accepted : (file : File) → fileRoom < length file → T (accepted file) → ⊥
 not-accepted file longer t = too-long file longer (counts-fit file t) (offsets-fit file t)
 
 -- and where its edition and its counts are right, it is refused for its length
-pub refused-for-length : (file : File) → longestJob < length file → edition file ≡ thisEdition → T (countsFit file) → firstRefusal file ≡ WrongOffsetOrLength
+pub refused-for-length : (file : File) → fileRoom < length file → edition file ≡ thisEdition → T (countsFit file) → firstRefusal file ≡ WrongOffsetOrLength
 refused-for-length file longer one counts =
     rw (refused-by-header file (omega arith) (too-long file longer counts), eq-eqb (edition file) thisEdition, is-true (countsFit file))
 

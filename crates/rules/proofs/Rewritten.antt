@@ -17,12 +17,12 @@ use Rattle.rules.specs.declared.Taken.{Taken}
 use Rattle.rules.specs.declared.Written.{Written}
 use Rattle.rules.specs.JobFile.{File, u16At, u32At, u32sAt, thisEdition, headerBytes, wallFields, entryFields, entryBytes, mostWalls, mostLoads, edition, wallCount, firstWallOffset, loadCount, firstLoadOffset, wholeLength, entriesAt, wallAt, entryAt, walls, entries}
 use Rattle.rules.specs.Answered.{isWorked, refusedIf, countsFit, offsetsAndLengthFit, firstRefusal, accepted}
-use Rattle.rules.specs.SheetLine.{joined}
+use Rattle.rules.specs.SheetLine.{joined, refusalText}
 use Rattle.rules.specs.Beyond.{onto, Put}
-use Rattle.rules.specs.WrittenFile.{recordCount, recordsIn, u16Bytes, u32Bytes, u16sBytes, u32sBytes, wallsEnd, loadsEnd, headerOf, fileOf, recordsFit, recordsAnswer, writingAnswer, bytesWritten, Writes, takingAnswer, wallsTaken, loadsTaken, TakesApart, rewritten}
-use Rattle.rules.proofs.AcceptedFile.{first-worked, not-refused, passes, edition-is, offsets-fit, ends, length-is}
+use Rattle.rules.specs.WrittenFile.{recordCount, recordsIn, u16Bytes, u32Bytes, u16sBytes, u32sBytes, wallsEnd, loadsEnd, headerOf, fileOf, recordsFit, recordsAnswer, writingAnswer, bytesWritten, Writes, takingAnswer, wallsTaken, loadsTaken, TakesApart, fileRoom, rewritten}
+use Rattle.rules.proofs.AcceptedFile.{first-worked, not-refused, passes, edition-is, counts-fit, wall-count, load-count, offsets-fit, ends, length-is}
 use Rattle.rules.proofs.Bytes.{Numbers, u16sAt, u32s-length, u16s-back, u32s-back, u16s-again, u32s-again, u32s-count, joined-records, records-again, header-length, file-length}
-use Rattle.rules.proofs.LongInput.{IsByte, longestJob, leastRead, read-alike}
+use Rattle.rules.proofs.LongInput.{IsByte, leastRead, read-alike}
 use Rattle.rules.proofs.Points.{caseA, wallA}
 
 -- ---- the records of any file
@@ -148,7 +148,7 @@ unfolding recordsFit
 counts ws ls fit = omega (arith, eqb-true, leb-true, simp and-eq-true-iff at (is-true (recordsFit ws ls) fit))
 
 -- their file is no longer than the longest job
-file-small : (ws ls : List ℕ) → T (recordsFit ws ls) → length (fileOf ws ls) ≤ longestJob
+file-small : (ws ls : List ℕ) → T (recordsFit ws ls) → length (fileOf ws ls) ≤ fileRoom
 file-small ws ls fit = omega (arith, file-length ws ls, counts ws ls fit)
 
 -- and where they are numbers of 32 bits
@@ -282,7 +282,7 @@ file-written {ws} {ls} {before} writes t =
     (first-worked (recordsAnswer ws ls) _ worked .0, rw (is-true (isWorked (writingAnswer ws ls (length before))) worked) at (writes .put))
 
 -- where one was taken apart, it is accepted, and its records stand at the start of the buffers
-records-taken : {file wallsBefore loadsBefore wallsAfter loadsAfter : List ℕ} {a : Taken}
+pub records-taken : {file wallsBefore loadsBefore wallsAfter loadsAfter : List ℕ} {a : Taken}
     → TakesApart file wallsBefore loadsBefore a wallsAfter loadsAfter → T (isWorked (a .answer))
     → T (accepted file) × Put (joined (walls file)) wallsBefore (a .walls) wallsAfter × Put (joined (entries file)) loadsBefore (a .loads) loadsAfter
 unfolding takingAnswer wallsTaken loadsTaken
@@ -309,20 +309,34 @@ written-is-read {ws} {ls} {wallsBefore} {loadsBefore} {a} writes wallNumbers loa
     let held = records-taken apart (rw worked tt) in
     (worked, rw (back .0) at (held .1), rw (back .1) at (held .2))
 
--- "any file that the reader accepts, taken apart and written again, gives the same bytes": into a buffer with the room for them
+-- a file that is taken apart is accepted, and written again into a buffer with the room it is what is printed
+pub written-again : {file wallsBefore loadsBefore wallsAfter loadsAfter before after : List ℕ} {a : Taken} {w : Written}
+    → TakesApart file wallsBefore loadsBefore a wallsAfter loadsAfter → T (isWorked (a .answer))
+    → Writes (take (a .walls) wallsAfter) (take (a .loads) loadsAfter) before w after → length (rewritten file) ≤ length before
+    → (w .answer ≡ Worked) × Put (rewritten file) before (w .bytes) after
+unfolding rewritten
+written-again {file} {before} {w} apart t writing room =
+    let held = records-taken apart t in
+    let ws = joined (walls file) in
+    let ls = joined (entries file) in
+    let accepts = is-true (accepted file) (held .0) in
+    let writes = rw (put-there (held .1), put-there (held .2)) at writing in
+    let good = rw (answered-alike file (right-header file (held .0))) at (held .0) in
+    let worked : w .answer ≡ Worked = writes .answered ∙ writing-works ws ls (length before) good (rw accepts at room) in
+    (worked, rw accepts (file-written writes (rw worked tt) .1))
+
+-- of a job that is accepted that is the file itself,
+pub rewritten-same : (file : File) → All IsByte file → T (accepted file) → rewritten file ≡ file
+unfolding rewritten
+rewritten-same file bytes t = rw (is-true (accepted file) t) (same-bytes file bytes t)
+
+-- so that "any file that the reader accepts, taken apart and written again, gives the same bytes"
 pub taken-is-written : {file wallsBefore loadsBefore wallsAfter loadsAfter before after : List ℕ} {a : Taken} {w : Written}
     → TakesApart file wallsBefore loadsBefore a wallsAfter loadsAfter → All IsByte file → T (isWorked (a .answer))
     → Writes (take (a .walls) wallsAfter) (take (a .loads) loadsAfter) before w after → length file ≤ length before
     → (w .answer ≡ Worked) × Put file before (w .bytes) after
-taken-is-written {file} {before} {w} apart bytes t writing room =
-    let held = records-taken apart t in
-    let ws = joined (walls file) in
-    let ls = joined (entries file) in
-    let writes = rw (put-there (held .1), put-there (held .2)) at writing in
-    let same = same-bytes file bytes (held .0) in
-    let good = rw (answered-alike file (right-header file (held .0))) at (held .0) in
-    let worked : w .answer ≡ Worked = writes .answered ∙ writing-works ws ls (length before) good (rw same room) in
-    (worked, rw same at (file-written writes (rw worked tt) .1))
+taken-is-written {file} apart bytes t writing room =
+    let same = rewritten-same file bytes (records-taken apart t .0) in rw same at (written-again apart t writing (rw same room))
 
 -- "Bytes after the file stay untouched,
 pub untouched : {ws ls before after : List ℕ} {w : Written} → Writes ws ls before w after → drop (w .bytes) after ≡ drop (w .bytes) before
@@ -339,20 +353,35 @@ refusal-writes-none {w} writes t =
     let put = rw (← writes .answered, is-false (isWorked (w .answer)) t) at (writes .put) in (put .counted, put .holds)
 
 -- no more bytes are written than the longest job has
-pub written-small : {ws ls before after : List ℕ} {w : Written} → Writes ws ls before w after → w .bytes ≤ longestJob
+pub written-small : {ws ls before after : List ℕ} {w : Written} → Writes ws ls before w after → w .bytes ≤ fileRoom
 unfolding writingAnswer bytesWritten
 written-small {ws} {ls} {before} writes =
     rw (writes .put .counted)
-    (case (isWorked (writingAnswer ws ls (length before))) (fileOf ws ls) [] (λ bytes. length bytes ≤ longestJob)
+    (case (isWorked (writingAnswer ws ls (length before))) (fileOf ws ls) [] (λ bytes. length bytes ≤ fileRoom)
     (λ t. file-small ws ls (records-fit ws ls (first-worked (recordsAnswer ws ls) _ t .0)))
     (λ t. omega arith))
 
--- ---- a job written again, as it is printed
+-- ---- a job written again, as it is printed: taken apart into buffers with the room for any
 
--- of a job that is accepted the same bytes are printed
-pub rewritten-same : (file : File) → All IsByte file → T (accepted file) → rewritten file ≡ file
+-- where they have it, the only refusals are the reader's, and the text is the refusal's
+pub refusal-printed : {file wallsBefore loadsBefore wallsAfter loadsAfter : List ℕ} {a : Taken} → TakesApart file wallsBefore loadsBefore a wallsAfter loadsAfter
+    → wallFields * mostWalls ≤ length wallsBefore → entryFields * mostLoads ≤ length loadsBefore → T (not (isWorked (a .answer)))
+    → refusalText (a .answer) ≡ rewritten file
+unfolding takingAnswer rewritten
+refusal-printed {file} {wallsBefore} {loadsBefore} {a} apart h k t = go (accepted file) refl
+  where
+    go : (is : Bool) → accepted file ≡ is → refusalText (a .answer) ≡ rewritten file
+    go true e =
+        let counted = wall-count file (rw e tt) in
+        let loaded = load-count file (rw e tt) in
+        let works = taking-works file (length wallsBefore) (length loadsBefore) (rw e tt) (omega (arith, walls-numbers file)) (omega (arith, entries-numbers file)) in
+        absurd (rw (apart .answered, works) at t)
+    go false e = let its : a .answer ≡ firstRefusal file = apart .answered ∙ rw e in rw (its, e)
+
+-- of a job that is accepted there is room for it
+pub rewritten-small : (file : File) → T (accepted file) → length (rewritten file) ≤ fileRoom
 unfolding rewritten
-rewritten-same file bytes t = rw (is-true (accepted file) t) (same-bytes file bytes t)
+rewritten-small file t = rw (is-true (accepted file) t) (file-small (joined (walls file)) (joined (entries file)) (rw (fit-alike file) (counts-fit file t)))
 
 -- and of an input longer than any job what would be if all were read
 pub rewritten-read : (read : ℕ) → leastRead ≤ read → (file : File) → All IsByte file → rewritten (take read file) ≡ rewritten file

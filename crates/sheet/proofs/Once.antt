@@ -10,3 +10,6 @@ text = (λ _ _. tt, λ _ _ _ _ _ _ is its. (agree (is .counted) (its .counted), 
 
 pub drawing : Once sheet.drawing.ended sheet.drawing.Reads.Asked sheet.drawing.Reads.Learnt
 drawing = (λ _ _. tt, λ _ _ _ _ _ _ is its. by-equation (is .answered) (its .answered))
+
+pub rewrite : Once sheet.rewrite.ended sheet.rewrite.Reads.Asked sheet.rewrite.Reads.Learnt
+rewrite = (λ _ _. tt, λ _ _ _ _ _ _ is its. (agree (is .counted) (its .counted), past (lent (agree (is .holds) (its .holds)))))

@@ -1,10 +1,13 @@
-// Document 01 for a whole job file: the numbers of its sheet, the text that is printed of it, and the drawing of a wall. Each entry takes any bytes,
-// and a refusal changes nothing that was lent but for its own text.
+// Document 01 for a whole job file: the numbers of its sheet, the text that is printed of it, and the drawing of a wall; and the file written again. Each
+// entry takes any bytes, and a refusal changes nothing that was lent but for its own text.
 mod drawn;
 mod figures;
 
+use job::FILE_ROOM;
+use job::LOAD_ROOM;
 use job::MOST_WALLS;
 use job::PlaceRow;
+use job::WALL_ROOM;
 use rules::Answer;
 use rules::Drawn;
 use rules::LINE;
@@ -21,6 +24,7 @@ ghost use Rattle.rules.specs.Answered.{accepted};
 ghost use Rattle.rules.specs.Drawing.{Draws};
 ghost use Rattle.rules.specs.SheetLine.{Calculates, lineNumbers, sheet, joined, printed};
 ghost use Rattle.rules.specs.Beyond.{Prints, Put, sheetRoom, onto};
+ghost use Rattle.rules.specs.WrittenFile.{Rewrites};
 
 // Room for the text of any job.
 pub const SHEET_ROOM: usize = LINE_ROOM * MOST_WALLS;
@@ -125,4 +129,25 @@ pub fn drawing(job: &[u8], wall: u32) -> Drawn
         return drawn::undrawn(Answer::NoSuchWall(wall));
     }
     drawn::drawn_at(job, wall - 1)
+}
+
+// Document 02, #101: a job taken apart and written again, at the start of the buffer, and how many bytes it took; a refusal is printed. Where the buffer
+// hasn't room for the file of any job, it is left as it is, and 0 bytes are used.
+pub fn rewrite(job: &[u8], out: &mut [u8]) -> usize
+    ensures { λ r. ⌜ Rewrites (now (job .entry)) (now (out .entry)) r (now (out .exit)) ⌝ }
+{
+    if out.len() < FILE_ROOM {
+        return 0;
+    }
+    let mut walls = [0u32; WALL_ROOM];
+    let mut loads = [0u32; LOAD_ROOM];
+    let taken = job::take_apart(job, &mut walls, &mut loads);
+    let answer = taken.answer;
+    if !reply::is_worked(answer) {
+        return text::refusal_text(answer, out);
+    }
+    let wall_numbers = taken.walls;
+    let load_numbers = taken.loads;
+    let written = job::write(&walls[..wall_numbers], &loads[..load_numbers], out);
+    written.bytes
 }

@@ -1,7 +1,7 @@
 -- `job::records::lengths_at` meets its contract. The lengths are five fields behind the first.
 use mathlib.Core.Path.{_≡_}
 use mathlib.Core.List.{_∷_, _++_}
-use Prim.Native.Nat.{ℕ, _+_}
+use Prim.Native.Nat.{ℕ, _+_, _-_}
 use native.Mathlib.Nat.{add-assoc}
 use borrow.Author.Needs.{needs}
 use lib.ListN.{replicate}
@@ -10,7 +10,7 @@ use Rattle.job.specs.Lengths.{lengthsOf}
 use Rattle.job.proofs.records.lengths_at.Statement.{statement}
 use Rattle.job.proofs.records.lengths_at.Tie as tie
 
-five : (file : File) (at : ℕ) → 0 ∷ (u32sAt file (at + 4) 5 ++ replicate 25 0) ≡ lengthsOf (u32sAt file at wallFields)
+five : (file : File) (at : ℕ) → 0 ∷ (u32sAt file (at + 4) 5 ++ replicate (wallFields - 6) 0) ≡ lengthsOf (u32sAt file at wallFields)
 unfolding u32sAt lengthsOf
 five file at = simp add-assoc
 

@@ -8,10 +8,9 @@ use lib.ListN.{length}
 use Rattle.rules.specs.JobFile.{headerBytes, wallFields, entryFields, mostWalls, mostLoads}
 use Rattle.rules.specs.Beyond.{Put}
 use Rattle.rules.specs.WrittenFile.{recordCount, headerOf, fileOf, u32sBytes}
-use Rattle.rules.proofs.Putting.{withBack, then-text, put-within, put-length}
+use Rattle.rules.proofs.Putting.{withBack, then-text, put-within, put-length, room-left}
 use Rattle.rules.proofs.Bytes.{u32s-length, header-length, file-length}
 use Rattle.job.proofs.LentRecords.{few-records}
-use Rattle.job.proofs.Writing.{put-room}
 use Rattle.job.proofs.written.put_file.Statement.{statement}
 use Rattle.job.proofs.written.put_file.Tie as tie
 
@@ -46,7 +45,7 @@ header-put c =
     }
 
 put-u32s-requires : tie.Need-put-u32s-requires
-put-u32s-requires c κs = let headed = c .before .before .before in put-room (header-put headed) (omega (arith, room (start headed)))
+put-u32s-requires c κs = let headed = c .before .before .before in room-left (header-put headed) (omega (arith, room (start headed)))
 
 -- and the walls behind it
 abbrev headed : tie.After-put-u32s → tie.After-put-header
@@ -58,7 +57,7 @@ walls-put : (c : tie.After-put-u32s) → let h = headed c in
 walls-put c = then-text (header-put (headed c)) (record { counted = sym (u32s-length (walls (headed c))); holds = c .put-u32s .ensures })
 
 put-u32s-requires-2 : tie.Need-put-u32s-requires-2
-put-u32s-requires-2 c κs = let walled = c .before .before .before in put-room (walls-put walled) (omega (arith, room (start (headed walled))))
+put-u32s-requires-2 c κs = let walled = c .before .before .before in room-left (walls-put walled) (omega (arith, room (start (headed walled))))
 
 -- and the loads behind these
 abbrev walled : tie.After-put-u32s2 → tie.After-put-u32s
