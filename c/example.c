@@ -1,10 +1,12 @@
 /*
- * Prints each wall's verdict, the sheet, and the drawing of wall 1 of a job file, or why it is refused:
+ * Prints each wall's verdict, the sheet, and the drawing of wall 1 of a job file, and how it is written again, with other figures of wall 1
+ * too; or why it is refused:
  *
  *     cc -std=c99 -Wall -Wextra -pedantic -o example c/example.c target/staticlib/liboffice.a
  *     ./example jobs/case-a.job
  */
 #include <stdio.h>
+#include <string.h>
 
 #include "office.h"
 
@@ -13,6 +15,9 @@ static uint8_t job[65536];
 static int64_t numbers[OFFICE_LINE_NUMBERS * OFFICE_MOST_WALLS];
 static uint8_t text[OFFICE_TEXT_ROOM];
 static double figures[OFFICE_FIGURE_ROOM];
+static uint32_t walls[OFFICE_WALL_ROOM];
+static uint32_t loads[OFFICE_LOAD_ROOM];
+static uint8_t again[OFFICE_FILE_ROOM];
 
 static const struct {
     uint8_t bit;
@@ -33,12 +38,13 @@ static const char *reason(uint32_t refusal)
     switch (refusal) {
     case OFFICE_TOO_SHORT: return "the file is too short for a header";
     case OFFICE_WRONG_EDITION: return "wrong edition";
-    case OFFICE_COUNT_OUT_OF_RANGE: return "the number of walls or of loads is out of range";
+    case OFFICE_COUNT_OUT_OF_RANGE: return "the number of walls or of loads is out of range, or a record isn't whole";
     case OFFICE_WRONG_OFFSET_OR_LENGTH: return "an offset or the length is wrong";
     case OFFICE_WALL_OUT_OF_RANGE: return "a field is out of range in wall";
     case OFFICE_LOAD_OUT_OF_RANGE: return "a field is out of range, or the wall isn't there, in load";
     case OFFICE_NINTH_LOAD: return "a wall has a ninth load, load";
     case OFFICE_BUFFER_TOO_SHORT: return "the buffer is too short";
+    case OFFICE_OUTPUT_TOO_SHORT: return "the output is too short";
     case OFFICE_NO_SUCH_WALL: return "there is no wall";
     default: return "worked";
     }
@@ -77,6 +83,12 @@ static void print_drawing(uint32_t shape)
         printf("a triangle from the %s, peak %.3f kN/m2, %.1f mm long\n", shape == OFFICE_TOE_TRIANGLE ? "toe" : "heel", figures[OFFICE_FIGURE_ONE], figures[OFFICE_FIGURE_TWO]);
 }
 
+/* The records, as they are by now, as a job. */
+static uint64_t write_again(void)
+{
+    return office_write(walls, OFFICE_WALL_FIELDS * office_wall_count(job), loads, OFFICE_LOAD_FIELDS * office_load_count(job), again, sizeof again);
+}
+
 int main(int count, char **words)
 {
     FILE *file = count == 2 ? fopen(words[1], "rb") : NULL;
@@ -95,8 +107,7 @@ int main(int count, char **words)
     uint64_t answer = office_calculate(job, length, numbers, OFFICE_LINE_NUMBERS * OFFICE_MOST_WALLS);
     if (office_answer_number(answer) != OFFICE_WORKED)
         return refused(answer);
-    int walls = job[2] + 256 * job[3]; /* a job that is worked has its number of walls here */
-    for (int i = 0; i < walls; i++)
+    for (size_t i = 0; i < office_wall_count(job); i++)
         print_verdict(numbers + OFFICE_LINE_NUMBERS * i);
 
     fwrite(text, 1, office_text(job, length, text, sizeof text), stdout);
@@ -105,5 +116,28 @@ int main(int count, char **words)
     if (office_answer_number(answer) != OFFICE_WORKED)
         return refused(answer);
     print_drawing(office_answer_shape(answer));
+
+    answer = office_records(job, length, walls, OFFICE_WALL_ROOM, loads, OFFICE_LOAD_ROOM);
+    if (office_answer_number(answer) != OFFICE_WORKED)
+        return refused(answer);
+    answer = write_again();
+    if (office_answer_number(answer) != OFFICE_WORKED)
+        return refused(answer);
+    size_t bytes = office_answer_bytes(answer);
+    printf("written again: %u bytes, %s\n", (unsigned)bytes, bytes == length && memcmp(again, job, length) == 0 ? "the same" : "not the same");
+
+    walls[OFFICE_WALL_STEM_SPACING] = 50; /* the records begin with wall 1's */
+    answer = write_again();
+    if (office_answer_number(answer) != OFFICE_WORKED)
+        return refused(answer);
+    answer = office_calculate(again, office_answer_bytes(answer), numbers, OFFICE_LINE_NUMBERS * OFFICE_MOST_WALLS);
+    if (office_answer_number(answer) != OFFICE_WORKED)
+        return refused(answer);
+    printf("with a stem bar every 50 mm, ");
+    print_verdict(numbers);
+
+    walls[OFFICE_WALL_STEM_HEIGHT] = 0;
+    printf("with a stem of no height, ");
+    refused(write_again());
     return 0;
 }

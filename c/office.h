@@ -1,5 +1,6 @@
 /*
- * The wall sheet for C and C++: the numbers of a job's sheet, its printed text, and the drawing of one of its walls.
+ * The wall sheet for C and C++: the numbers of a job's sheet, its printed text, and the drawing of one of its walls; a job file written from
+ * records, and one taken apart into them.
  *
  * The functions stand in target/staticlib/liboffice.a, which `rt staticlib office` makes for x86-64 Linux. They are written in Rattle
  * (crates/office), and each is proved to answer what its comment says for every job, buffer and number, and to return. They keep nothing
@@ -9,10 +10,12 @@
  *
  *   - A pointer leads to as many elements as the length behind it says, aligned as their type is, and these are at most PTRDIFF_MAX bytes
  *     in all. Where the length is 0 nothing is read or written, and the pointer may be NULL.
- *   - The job's bytes and the elements of the buffer have values before the call; any values will do.
- *   - Job and buffer don't overlap. Until the call returns nothing else writes to the job, and nothing else reads or writes the buffer.
+ *   - All elements have values before the call, those of a buffer that is written too; any values will do.
+ *   - A buffer that is written overlaps nothing else that the call is given. Until the call returns nothing else reads or writes it, and
+ *     nothing else writes to what is only read, which is `const`.
  *
- * Nothing is owed of what the job holds. Any bytes have an answer: a job that can't be worked is refused.
+ * Nothing is owed of what a job or a record holds. Any bytes have an answer, and so have any numbers: a job that can't be worked, and records
+ * that would make one, are refused.
  */
 #ifndef OFFICE_H
 #define OFFICE_H
@@ -31,29 +34,37 @@ enum {
     OFFICE_LINE_NUMBERS = 16, /* numbers on a wall's line */
     OFFICE_MOST_WALLS = 64,   /* walls that a job may have; 16 x 64 numbers are room for any sheet */
     OFFICE_TEXT_ROOM = 21504, /* bytes, room for the text of any job */
-    OFFICE_FIGURE_ROOM = 5    /* doubles, room for the figures of any drawing */
+    OFFICE_FIGURE_ROOM = 5,   /* doubles, room for the figures of any drawing */
+    OFFICE_WALL_FIELDS = 31,  /* numbers in a wall's record */
+    OFFICE_LOAD_FIELDS = 5,   /* numbers in a load's record */
+    OFFICE_MOST_LOADS = 512,  /* loads that a job may have */
+    OFFICE_WALL_ROOM = 1984,  /* numbers, room for the walls of any job */
+    OFFICE_LOAD_ROOM = 2560,  /* numbers, room for its loads */
+    OFFICE_FILE_ROOM = 18188  /* bytes, room for any job */
 };
 
-/* ---- what is answered, packed in one number: the place in the low 32 bits, the refusal's number in the next 16, the shape above */
+/* ---- what is answered, packed in one number: the place in the low 32 bits, the refusal's number in the next 16, shape or bytes above */
 
 static inline uint32_t office_answer_place(uint64_t answer) { return (uint32_t)(answer & 0xffffffffu); }
 static inline uint32_t office_answer_number(uint64_t answer) { return (uint32_t)(answer >> 32 & 0xffffu); }
-static inline uint32_t office_answer_shape(uint64_t answer) { return (uint32_t)(answer >> 48); }
+static inline uint32_t office_answer_shape(uint64_t answer) { return (uint32_t)(answer >> 48); } /* of a drawing */
+static inline size_t office_answer_bytes(uint64_t answer) { return (size_t)(answer >> 48); }     /* of a job that is written */
 
 /*
- * A refusal's number. Of several faults the one that stands higher here is named, 8 after all others; among walls the first, and then among
- * loads the first, whether for 6 or 7; a load with both faults has 6.
+ * A refusal's number. Of several faults the one that stands higher here is named, 8 or 9 after all others; among walls the first, and then
+ * among loads the first, whether for 6 or 7; a load with both faults has 6.
  */
 enum office_refusal {
     OFFICE_WORKED = 0,                 /* no refusal */
     OFFICE_TOO_SHORT = 1,              /* the job has fewer than 12 bytes */
     OFFICE_WRONG_EDITION = 2,          /* its edition isn't 1 */
-    OFFICE_COUNT_OUT_OF_RANGE = 3,     /* it has no wall or more than 64, or more than 512 loads */
+    OFFICE_COUNT_OUT_OF_RANGE = 3,     /* it has no wall or more than 64, or more than 512 loads; or a record isn't whole */
     OFFICE_WRONG_OFFSET_OR_LENGTH = 4, /* the offsets and the length don't follow from the counts, or the length isn't that of the job */
     OFFICE_WALL_OUT_OF_RANGE = 5,      /* a wall has a field out of range; the place is the wall's number */
     OFFICE_LOAD_OUT_OF_RANGE = 6,      /* a load has one, or is on no wall of the job; the place is the load's number */
     OFFICE_NINTH_LOAD = 7,             /* a load is the ninth on its wall; the place is the load's number */
     OFFICE_BUFFER_TOO_SHORT = 8,       /* the lent buffer hasn't the room */
+    OFFICE_OUTPUT_TOO_SHORT = 9,       /* it hasn't the room for the job that is to be written */
     OFFICE_NO_SUCH_WALL = 18           /* the job has no wall of the number asked for, which is the place */
 };
 /* Walls and loads are numbered from 1, in the job's order. Where no place is named it is 0. */
@@ -140,6 +151,72 @@ enum office_figure {
  * the shape; then the shape is 0, and the buffer is as it was.
  */
 uint64_t office_drawing(const uint8_t *job, size_t job_length, uint32_t wall, double *out, size_t out_length);
+
+/* ---- a job's records */
+
+/* Where each number of a wall's record stands. Lengths are in mm, densities in 10 N/m3, coefficients in thousandths. */
+enum office_wall {
+    OFFICE_WALL_KIND,              /* 0 unpropped, 1 propped at the base */
+    OFFICE_WALL_STEM_HEIGHT,
+    OFFICE_WALL_STEM_THICKNESS,
+    OFFICE_WALL_TOE,               /* how far the toe reaches in front of the stem, */
+    OFFICE_WALL_HEEL,              /* and the heel behind it */
+    OFFICE_WALL_BASE_THICKNESS,
+    OFFICE_WALL_COVER_IN_FRONT,
+    OFFICE_WALL_EXCAVATION,        /* unplanned */
+    OFFICE_WALL_WATER,             /* its height above the underside of the base */
+    OFFICE_WALL_STEM_DENSITY,
+    OFFICE_WALL_BASE_DENSITY,
+    OFFICE_WALL_MOIST_DENSITY,     /* of moist fill, */
+    OFFICE_WALL_SATURATED_DENSITY, /* of saturated fill, */
+    OFFICE_WALL_SOIL_DENSITY,      /* of the soil at the base */
+    OFFICE_WALL_KA,
+    OFFICE_WALL_K0,
+    OFFICE_WALL_PASSIVE,           /* Kp x cos(base friction angle) */
+    OFFICE_WALL_TANGENT,           /* of the base friction angle */
+    OFFICE_WALL_ALLOWABLE,         /* bearing, kN/m2 */
+    OFFICE_WALL_SURCHARGE,         /* 10 N/m2 */
+    OFFICE_WALL_FCU,               /* N/mm2 */
+    OFFICE_WALL_FY,                /* N/mm2 */
+    OFFICE_WALL_LEAST_STEEL,       /* hundredths of a percent */
+    OFFICE_WALL_TOE_COVER,         /* over the toe's bars, and their diameter and spacing */
+    OFFICE_WALL_TOE_BAR,
+    OFFICE_WALL_TOE_SPACING,
+    OFFICE_WALL_STEM_COVER,        /* the same three of the stem */
+    OFFICE_WALL_STEM_BAR,
+    OFFICE_WALL_STEM_SPACING,
+    OFFICE_WALL_TOE_STRESS,        /* what the concrete takes in shear, 1/1000 N/mm2 */
+    OFFICE_WALL_STEM_STRESS
+};
+
+/* And of a load's. */
+enum office_load {
+    OFFICE_LOAD_WALL,      /* the number of its wall, from 1 */
+    OFFICE_LOAD_DIRECTION, /* 0 down, 1 horizontal towards the toe */
+    OFFICE_LOAD_POSITION,  /* of a load down, from the toe; of a horizontal one, above the underside of the base */
+    OFFICE_LOAD_DEAD,      /* N/m */
+    OFFICE_LOAD_LIVE       /* N/m */
+};
+
+/* How many walls, and how many loads, a job has that isn't refused. */
+static inline size_t office_wall_count(const uint8_t *job) { return job[2] + 256u * job[3]; }
+static inline size_t office_load_count(const uint8_t *job) { return job[6] + 256u * job[7]; }
+
+/*
+ * The records of a job. Where it is taken apart the answer is 0, and the one buffer holds 31 numbers for each wall, the other 5 for each
+ * load, in the job's order, and behind them what they held before. A refusal is 1 to 7, with its place, or 8 where either buffer has room
+ * for fewer; then both are as they were.
+ */
+uint64_t office_records(const uint8_t *job, size_t job_length, uint32_t *walls, size_t walls_length, uint32_t *loads, size_t loads_length);
+
+/*
+ * The job that records make: 31 numbers for each wall, and 5 for each load. Where it is written the answer's refusal is 0 and its bytes are
+ * 12, 124 for each wall and 20 for each load; the buffer holds the job in so many, and behind them what it held before. office_records gives
+ * the same records of it, and what it gives of any job is written as the same bytes. A refusal is 3, also for numbers that aren't whole
+ * records, 5 to 7 as the job would be refused, with its place, or 9 where the buffer has room for fewer bytes; then the answer's bytes are
+ * 0, and the buffer is as it was.
+ */
+uint64_t office_write(const uint32_t *walls, size_t walls_length, const uint32_t *loads, size_t loads_length, uint8_t *out, size_t out_length);
 
 #ifdef __cplusplus
 }

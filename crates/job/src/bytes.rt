@@ -78,13 +78,13 @@ fn put_u16(number: u16, out: &mut [u8])
     out[1] = (number / 256 % 256) as u8;
 }
 
-fn put_u32(number: u32, out: &mut [u8])
+fn put_u32(field: u32, out: &mut [u8])
     requires { ⌜ 4 ≤ length (now out) ⌝ }
-    ensures { λ _. ⌜ now (out .exit) ≡ onto (u32Bytes number) (now (out .entry)) ⌝ }
+    ensures { λ _. ⌜ now (out .exit) ≡ onto (u32Bytes field) (now (out .entry)) ⌝ }
 {
-    let high = number / 65536;
-    out[0] = (number % 256) as u8;
-    out[1] = (number / 256 % 256) as u8;
+    let high = field / 65536;
+    out[0] = (field % 256) as u8;
+    out[1] = (field / 256 % 256) as u8;
     out[2] = (high % 256) as u8;
     out[3] = (high / 256 % 256) as u8;
 }

@@ -29,7 +29,7 @@ pub fn refused_if(test: bool, refusal: Answer) -> Answer
 }
 
 // The first of two refusals.
-fn or_else(first: Answer, second: Answer) -> Answer
+pub fn or_else(first: Answer, second: Answer) -> Answer
     ensures { λ r. ⌜ r ≡ (first orElse second) ⌝ }
 {
     if reply::is_worked(first) {

@@ -7,7 +7,7 @@ use crate::refusals;
 use rules::Answer;
 ghost use mathlib.Core.Path.{_≡_};
 ghost use Prim.Native.Nat.{_≤_};
-ghost use lib.Dec.{T};
+ghost use lib.Dec.{T, ltb};
 ghost use lib.ListN.{length};
 ghost use Rattle.rules.specs.Beyond.{onto};
 ghost use Rattle.rules.specs.WrittenFile.{fileOf, recordsFit, writingAnswer};
@@ -20,15 +20,24 @@ pub fn file_bytes(walls: &[u32], loads: &[u32]) -> usize
     HEADER_BYTES + 4 * walls.len() + 4 * loads.len()
 }
 
+// Is room for so many bytes too little for the file? Of any buffers, so that no sum is made that might not fit.
+fn is_short(walls: &[u32], loads: &[u32], room: usize) -> bool
+    ensures { λ r. ⌜ r ≡ ltb room (length (fileOf (now (walls .entry)) (now (loads .entry)))) ⌝ }
+{
+    let end = HEADER_BYTES + 4 * walls.len();
+    if room < end {
+        return true;
+    }
+    room - end < 4 * loads.len()
+}
+
 // 3, 5, 6 and 7, and 9 last, where there is room for so many bytes.
 pub fn writing_answer(walls: &[u32], loads: &[u32], room: usize) -> Answer
     ensures { λ r. ⌜ r ≡ writingAnswer (now (walls .entry)) (now (loads .entry)) room ⌝ }
 {
     let answer = lent::records_answer(walls, loads);
-    if !reply::is_worked(answer) {
-        return answer;
-    }
-    refusals::refused_if(room < file_bytes(walls, loads), Answer::OutputTooShort)
+    let short = refusals::refused_if(is_short(walls, loads, room), Answer::OutputTooShort);
+    refusals::or_else(answer, short)
 }
 
 // The header, the walls behind it, and the loads behind these.

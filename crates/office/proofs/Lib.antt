@@ -1,4 +1,5 @@
 pub mod Asked
+pub mod BothWays
 pub mod Lent
 pub mod Once
 pub mod ReadsBack

@@ -1,5 +1,5 @@
-// The sheet for C: the three entries of `sheet`, a job written and taken apart, with one number for what each answers, and what the failures of a line say
-// of a check. Any bytes are a job, any numbers are records, and any buffer may be lent.
+// The sheet for C: its numbers, its text and a wall's drawing, a job written and taken apart, with one number for what is answered, and what the failures of
+// a line say of a check. Any bytes are a job, any numbers are records, and any buffer may be lent.
 use rules::Answer;
 use rules::Check;
 use rules::Drawn;
@@ -102,15 +102,16 @@ pub extern "C" fn office_drawing(job: &[u8], wall: u32, out: &mut [f64]) -> u64
 {
     let drawn = sheet::drawing(job, wall);
     let answer = drawn.answer;
-    let shape = shape_number(drawn.shape);
+    let shape = drawn.shape;
+    let besides = shape_number(shape);
     if !reply::is_worked(answer) {
-        return packed(answer, shape);
+        return packed(answer, besides);
     }
     if out.len() < FIGURE_ROOM {
         return packed(Answer::BufferTooShort, 0);
     }
     put_figures(drawn, out);
-    packed(answer, shape)
+    packed(answer, besides)
 }
 
 // The job file that records make, at the start of the buffer, and whatever stands behind it as it was; the answer has how many bytes it took. Or a
@@ -120,7 +121,8 @@ pub extern "C" fn office_write(walls: &[u32], loads: &[u32], out: &mut [u8]) -> 
     ensures { λ r. ⌜ WritesPacked (now (walls .entry)) (now (loads .entry)) (now (out .entry)) r (now (out .exit)) ⌝ }
 {
     let written = job::write(walls, loads, out);
-    packed(written.answer, written.bytes as u64)
+    let answer = written.answer;
+    packed(answer, written.bytes as u64)
 }
 
 // The records of a job's walls and of its loads, each at the start of a buffer, and whatever stands behind them as it was; or a refusal, and both buffers
@@ -129,7 +131,9 @@ pub extern "C" fn office_write(walls: &[u32], loads: &[u32], out: &mut [u8]) -> 
 pub extern "C" fn office_records(job: &[u8], walls: &mut [u32], loads: &mut [u32]) -> u64
     ensures { λ r. ⌜ TakesApartPacked (now (job .entry)) (now (walls .entry)) (now (loads .entry)) r (now (walls .exit)) (now (loads .exit)) ⌝ }
 {
-    packed(job::take_apart(job, walls, loads), 0)
+    let taken = job::take_apart(job, walls, loads);
+    let answer = taken.answer;
+    packed(answer, 0)
 }
 
 // Is the bit of a check set in the failures of a line? The check is named by its bit; of a number that is no check's bit the answer is false.

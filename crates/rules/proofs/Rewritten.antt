@@ -11,7 +11,6 @@ use lib.ListN.{length, getD, take, drop, length-append}
 use lib.Seq.{take-all, take-add, take-append-seam, drop-append-seam}
 use borrow.Author.Tests.{leb-true, eqb-true, eq-eqb, le-ltb, ltb-false}
 use Rattle.whole.proofs.Lists.{All, case}
-use Rattle.rules.specs.declared.Answer.{Answer}
 use Rattle.rules.specs.declared.Answer.the-variants.{Worked, CountOutOfRange, BufferTooShort, OutputTooShort}
 use Rattle.rules.specs.declared.Taken.{Taken}
 use Rattle.rules.specs.declared.Written.{Written}
