@@ -14,7 +14,7 @@ use Rattle.rules.specs.JobFile.{Wall, Entry, mostLoadsOnWall, mostWalls, record
 use Rattle.rules.specs.Answered.{isWorked, refusedIf, isThere, numbered, entryFits}
 use Rattle.rules.proofs.Accepted.{both}
 use Rattle.rules.proofs.AcceptedFile.{loads-join}
-use Rattle.job.specs.Refusals.{loadAnswer}
+use Rattle.rules.specs.Beyond.{loadAnswer}
 use Rattle.job.proofs.Passed.{passedLoads, one-more, Kept, none-kept, one-kept}
 use Rattle.job.proofs.Judging.{no-refusal, loadAnswerAt}
 

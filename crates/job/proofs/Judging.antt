@@ -14,7 +14,8 @@ use Rattle.rules.specs.JobFile.{File, Wall, Load, Entry, baseLength, wallHeight
 use Rattle.rules.specs.Answered.{isWorked, refusedIf, _orElse_, countsFit, offsetsAndLengthFit, wallAnswer, firstBadWall, entryFits, isOneMore, firstBadLoad, firstRefusal}
 use Rattle.rules.proofs.AcceptedFile.{walls-counted}
 use Rattle.job.specs.Lengths.{lengthsOf}
-use Rattle.job.specs.Refusals.{headerAnswer, loadAnswer}
+use Rattle.rules.specs.Beyond.{loadAnswer}
+use Rattle.job.specs.Refusals.{headerAnswer}
 use Rattle.job.proofs.Passed.{passedLoads, one-more}
 
 -- where the first of two answers is a refusal, that is answered, and otherwise the rest

@@ -1,8 +1,7 @@
 pub mod Counting
 pub mod Judging
-pub mod LentRecords
 pub mod Numbers
 pub mod Once
 pub mod Passed
 pub mod PlacesOfLoads
-pub mod Writing
+pub mod Taking

@@ -31,12 +31,3 @@ take-apart = (
         past (also (agree (walled .holds) (its .wallsPut .holds)) (lent (agree (loaded .holds) (its .loadsPut .holds)))),
       ),
 )
-
-pub write : Once job.write.ended job.write.Reads.Asked job.write.Reads.Learnt
-write = (
-  λ _ _. tt,
-  λ _ _ _ _ _ _ is its. (
-    λ i. record { answer = agree (is .answered) (its .answered) i; bytes = agree (is .put .counted) (its .put .counted) i },
-    past (past (lent (agree (is .put .holds) (its .put .holds)))),
-  ),
-)

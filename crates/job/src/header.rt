@@ -1,21 +1,12 @@
-// The header but for its count of walls, where the records behind it stand, and the header of a file that is written.
+// The header but for its count of walls, and where the records behind it stand.
+use crate::HEADER_BYTES;
 use crate::bytes;
-use crate::records::ENTRY_BYTES;
-use crate::records::ENTRY_FIELDS;
+use record::ENTRY_FIELDS;
 use record::FIELDS;
+use record::WALL_BYTES;
 ghost use mathlib.Core.Path.{_≡_};
-ghost use Prim.Native.Nat.{_+_, _*_, _<_, _≤_, _^_};
-ghost use lib.ListN.{length};
-ghost use Rattle.rules.specs.JobFile.{headerBytes, wallFields, entryFields, wallBytes, mostWalls, mostLoads, edition, wallCount, firstWallOffset, loadCount, firstLoadOffset, wholeLength};
-ghost use Rattle.rules.specs.Beyond.{onto};
-ghost use Rattle.rules.specs.WrittenFile.{headerOf};
-
-pub const HEADER_BYTES: usize = 12;
-
-// The edition that is read and written.
-pub const EDITION: u16 = 1;
-
-const WALL_BYTES: usize = 4 * FIELDS;
+ghost use Prim.Native.Nat.{_+_, _*_, _<_, _^_};
+ghost use Rattle.rules.specs.JobFile.{headerBytes, wallFields, entryFields, wallBytes, edition, wallCount, firstWallOffset, loadCount, firstLoadOffset, wholeLength};
 
 pub fn edition(file: &[u8]) -> u16
     ensures { λ r. ⌜ r ≡ edition (now (file .entry)) ⌝ }
@@ -72,22 +63,4 @@ pub fn load_numbers(file: &[u8]) -> usize
     ensures { λ r. ⌜ (r ≡ entryFields * loadCount (now (file .entry))) × (r < 2 ^ 40) ⌝ }
 {
     ENTRY_FIELDS * (load_count(file) as usize)
-}
-
-// The header of a file with so many walls and loads, at the start of what is lent.
-pub fn put_header(walls: u16, loads: u16, out: &mut [u8])
-    requires { ⌜ (walls ≤ mostWalls) × (loads ≤ mostLoads) × (headerBytes ≤ length (now out)) ⌝ }
-    ensures { λ _. ⌜ now (out .exit) ≡ onto (headerOf walls loads) (now (out .entry)) ⌝ }
-{
-    let first_load = walls_end(walls as u32);
-    let length = first_load + ENTRY_BYTES * (loads as usize);
-    let numbers = [
-        EDITION,
-        walls,
-        HEADER_BYTES as u16,
-        loads,
-        first_load as u16,
-        length as u16,
-    ];
-    bytes::put_u16s(&numbers, out);
 }

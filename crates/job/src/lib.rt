@@ -1,41 +1,37 @@
-// A job file taken apart, its first refusal, and a job file written: any bytes have walls, loads of each wall, and one answer, and so have any records.
-use header::HEADER_BYTES;
+// A job file taken apart, and its first refusal: any bytes have walls, loads of each wall, and one answer.
+use record::ENTRY_FIELDS;
 use record::FIELDS;
 use record::LOAD_FIELDS;
 use record::Loads;
+use record::MOST_LOADS;
 use record::MOST_LOADS_ON_WALL;
+pub use record::MOST_WALLS;
+use record::WALL_NUMBER;
 use record::Wall;
-use records::ENTRY_FIELDS;
-use records::WALL_NUMBER;
-use refusals::MOST_LOADS;
 use rules::Answer;
 use rules::Taken;
-use rules::Written;
 
 mod bytes;
 mod header;
-mod lent;
 mod records;
 mod refusals;
 mod rows;
-mod written;
 
 ghost use mathlib.Core.Path.{_≡_};
 ghost use Rattle.rules.specs.JobFile.{wallCount, wallAt, entries};
 ghost use Rattle.rules.specs.Answered.{firstRefusal};
-ghost use Rattle.rules.specs.WrittenFile.{Writes, TakesApart};
+ghost use Rattle.rules.specs.WrittenFile.{TakesApart};
 ghost use Rattle.job.specs.Places.{placeTable, loadsAt};
 
-// How many walls a file may have.
-pub const MOST_WALLS: usize = 64;
+// The edition that is read and written.
+pub const EDITION: u16 = 1;
+
+pub const HEADER_BYTES: usize = 12;
 
 // Room for the records of any file, in numbers: of its walls, and of its loads.
 pub const WALL_ROOM: usize = FIELDS * MOST_WALLS;
 
 pub const LOAD_ROOM: usize = ENTRY_FIELDS * MOST_LOADS;
-
-// Room for any file, in bytes.
-pub const FILE_ROOM: usize = HEADER_BYTES + 4 * WALL_ROOM + 4 * LOAD_ROOM;
 
 // The places of a wall's loads: their numbers in the file, and 0 after the last.
 pub type PlaceRow = [u32; MOST_LOADS_ON_WALL];
@@ -124,21 +120,5 @@ pub fn take_apart(file: &[u8], walls: &mut [u32], loads: &mut [u32]) -> Taken
         answer,
         walls: wall_numbers,
         loads: load_numbers,
-    }
-}
-
-// Document 02, #101: the file that records make is written at the start of the buffer, and whatever stands behind it is as it was; or it is refused, and
-// the buffer is as it was.
-pub fn write(walls: &[u32], loads: &[u32], out: &mut [u8]) -> Written
-    ensures { λ r. ⌜ Writes (now (walls .entry)) (now (loads .entry)) (now (out .entry)) r (now (out .exit)) ⌝ }
-{
-    let answer = written::writing_answer(walls, loads, out.len());
-    if !reply::is_worked(answer) {
-        return Written { answer, bytes: 0 };
-    }
-    written::put_file(walls, loads, out);
-    Written {
-        answer,
-        bytes: written::file_bytes(walls, loads),
     }
 }

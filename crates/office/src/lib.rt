@@ -120,7 +120,7 @@ pub extern "C" fn office_drawing(job: &[u8], wall: u32, out: &mut [f64]) -> u64
 pub extern "C" fn office_write(walls: &[u32], loads: &[u32], out: &mut [u8]) -> u64
     ensures { λ r. ⌜ WritesPacked (now (walls .entry)) (now (loads .entry)) (now (out .entry)) r (now (out .exit)) ⌝ }
 {
-    let written = job::write(walls, loads, out);
+    let written = writing::write(walls, loads, out);
     let answer = written.answer;
     packed(answer, written.bytes as u64)
 }

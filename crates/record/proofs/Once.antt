@@ -19,3 +19,12 @@ load-fits = (λ _ _. tt, λ _ _ _ _ _ _. by-equation)
 
 pub examined : Once record′.examined.ended record′.examined.Reads.Asked record′.examined.Reads.Learnt
 examined = (λ _ _. tt, λ _ _ _ _ _ _. by-equation)
+
+pub load-of : Once record′.load_of.ended record′.load_of.Reads.Asked record′.load_of.Reads.Learnt
+load-of = (λ _ _. tt, λ _ _ _ _ _ _. by-equation)
+
+pub load-answer : Once record′.load_answer.ended record′.load_answer.Reads.Asked record′.load_answer.Reads.Learnt
+load-answer = (λ _ _. tt, λ _ _ _ _ _ _. by-equation)
+
+pub count-on : Once record′.count_on.ended record′.count_on.Reads.Asked record′.count_on.Reads.Learnt
+count-on = (λ _ _. tt, λ _ _ _ _ _ _. by-equation)

@@ -5,14 +5,17 @@ use rules::Range;
 ghost use mathlib.Core.Path.{_≡_};
 ghost use Prim.Native.Nat.{_<_, _^_};
 ghost use lib.ListN.{getD};
-ghost use Rattle.rules.specs.JobFile.{Wall, baseLength, wallHeight, bars, among, within, firstBadField, reach, loadFits};
+ghost use Rattle.rules.specs.JobFile.{Wall, baseLength, wallHeight, bars, among, within, firstBadField, loadOf, reach, loadFits};
 ghost use Rattle.rules.specs.Answered.{wallAnswer};
-ghost use Rattle.rules.specs.Beyond.{firstUnfit, examined};
+ghost use Rattle.rules.specs.Beyond.{loadAnswer, firstUnfit, examined};
 
 // A wall is a number for each of its fields, in file order.
 pub const FIELDS: usize = 31;
 
 pub type Wall = [u32; FIELDS];
+
+// A number takes four bytes.
+pub const WALL_BYTES: usize = 4 * FIELDS;
 
 // Where the fields stand: a field's index is its number less 1.
 pub const KIND: usize = 0;
@@ -94,6 +97,33 @@ pub const POSITION: usize = 1;
 pub const DEAD: usize = 2;
 
 pub const LIVE: usize = 3;
+
+// An entry of a file: the number of a wall, and behind it a load.
+pub const ENTRY_FIELDS: usize = 1 + LOAD_FIELDS;
+
+pub type Entry = [u32; ENTRY_FIELDS];
+
+pub const ENTRY_BYTES: usize = 4 * ENTRY_FIELDS;
+
+pub const WALL_NUMBER: usize = 0;
+
+const ENTRY_DIRECTION: usize = 1 + DIRECTION;
+
+const ENTRY_POSITION: usize = 1 + POSITION;
+
+const ENTRY_DEAD: usize = 1 + DEAD;
+
+const ENTRY_LIVE: usize = 1 + LIVE;
+
+// How many walls a file may have, and how many loads.
+pub const MOST_WALLS: usize = 64;
+
+pub const MOST_LOADS: usize = 512;
+
+// A count of loads for each wall number, from 0 on.
+pub const COUNTS: usize = MOST_WALLS + 1;
+
+pub type Counts = [u32; COUNTS];
 
 // The range of each field, in field order.
 const RANGES: [Range; FIELDS] = [
@@ -229,6 +259,38 @@ pub fn load_fits(wall: Wall, load: Load) -> bool
         return false;
     }
     load[DEAD] <= GREATEST_LOAD && load[LIVE] <= GREATEST_LOAD
+}
+
+// An entry's load: everything but the number of its wall.
+pub fn load_of(entry: Entry) -> Load
+    ensures { λ r. ⌜ r ≡ loadOf entry ⌝ }
+{
+    [
+        entry[ENTRY_DIRECTION],
+        entry[ENTRY_POSITION],
+        entry[ENTRY_DEAD],
+        entry[ENTRY_LIVE],
+    ]
+}
+
+// 6 and 7: what is answered of the load with a number, by whether it fits and how many were passed on its wall.
+pub fn load_answer(fits: bool, passed: u32, number: u32) -> Answer
+    ensures { λ r. ⌜ r ≡ loadAnswer fits passed number ⌝ }
+{
+    let out_of_range = reply::refused_if(!fits, Answer::LoadOutOfRange(number));
+    let one_more = reply::refused_if(
+        MOST_LOADS_ON_WALL as u32 <= passed,
+        Answer::NinthLoad(number),
+    );
+    reply::or_else(out_of_range, one_more)
+}
+
+// How many loads were passed on the wall with a number; none on a wall that no file can have.
+pub fn count_on(counts: Counts, number: u32) -> u32
+    ensures { λ r. ⌜ r ≡ getD counts number 0 ⌝ }
+{
+    let n = number as usize;
+    if n < COUNTS { counts[n] } else { 0 }
 }
 
 // The number of the first load that doesn't fit the wall, from 1; 0 where there is none.

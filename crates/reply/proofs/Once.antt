@@ -10,3 +10,9 @@ place-of = (λ _ _. tt, λ _ _ _ _ _ _. by-equation)
 
 pub is-worked : Once reply.is_worked.ended reply.is_worked.Reads.Asked reply.is_worked.Reads.Learnt
 is-worked = (λ _ _. tt, λ _ _ _ _ _ _. by-equation)
+
+pub refused-if : Once reply.refused_if.ended reply.refused_if.Reads.Asked reply.refused_if.Reads.Learnt
+refused-if = (λ _ _. tt, λ _ _ _ _ _ _. by-equation)
+
+pub or-else : Once reply.or_else.ended reply.or_else.Reads.Asked reply.or_else.Reads.Learnt
+or-else = (λ _ _. tt, λ _ _ _ _ _ _. by-equation)

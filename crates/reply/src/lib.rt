@@ -1,7 +1,7 @@
-// Document 01, "What is answered": what an answer says, its number and its place.
+// Document 01, "What is answered": what an answer says, its number and its place; and refusals in the order of their tests.
 use rules::Answer;
 ghost use mathlib.Core.Path.{_≡_};
-ghost use Rattle.rules.specs.Answered.{number, place, isWorked};
+ghost use Rattle.rules.specs.Answered.{number, place, isWorked, refusedIf, _orElse_};
 
 // The number that document 01's table gives a refusal, and 0 where there is none.
 pub fn number_of(answer: Answer) -> u32
@@ -49,4 +49,18 @@ pub fn is_worked(answer: Answer) -> bool
         Answer::Worked => true,
         _ => false,
     }
+}
+
+// A refusal, where the test says so.
+pub fn refused_if(test: bool, refusal: Answer) -> Answer
+    ensures { λ r. ⌜ r ≡ refusedIf test refusal ⌝ }
+{
+    if test { refusal } else { Answer::Worked }
+}
+
+// The first of two refusals.
+pub fn or_else(first: Answer, second: Answer) -> Answer
+    ensures { λ r. ⌜ r ≡ (first orElse second) ⌝ }
+{
+    if is_worked(first) { second } else { first }
 }

@@ -3,7 +3,7 @@
 use Prim.Native.Nat.{ℕ, suc, _*_}
 use Prim.Native.Char.{code}
 use mathlib.Core.Path.{_≡_}
-use mathlib.Core.Bool.{Bool, false, _&&_, cond}
+use mathlib.Core.Bool.{Bool, false, not, _&&_, cond}
 use mathlib.Core.List.{List, [], _∷_, _++_, map}
 use lib.Dec.{leb, ltb}
 use lib.ListN.{length, drop, replicate}
@@ -11,7 +11,7 @@ use lib.IntN.{pos}
 use lib.Ieee.{Float, binary64, toBits}
 use Rattle.rules.specs.declared.Action.{Action}
 use Rattle.rules.specs.declared.Answer.{Answer}
-use Rattle.rules.specs.declared.Answer.the-variants.{Worked}
+use Rattle.rules.specs.declared.Answer.the-variants.{Worked, LoadOutOfRange, NinthLoad}
 use Rattle.rules.specs.declared.Borne.{Borne}
 use Rattle.rules.specs.declared.Drawn.{Drawn}
 use Rattle.rules.specs.declared.Forces.{Forces}
@@ -23,8 +23,8 @@ use Rattle.rules.specs.declared.Totals.{Totals}
 use Rattle.rules.specs.declared.Verdict.{Verdict}
 use Rattle.rules.specs.declared.Verdict.the-variants.{Judged, Unworkable}
 use Rattle.rules.specs.declared.WallLine.{WallLine}
-use Rattle.rules.specs.JobFile.{File, Wall, Load, Entry, mostWalls, loadFits}
-use Rattle.rules.specs.Answered.{isWorked, _orElse_, firstBadWall, firstBadLoad}
+use Rattle.rules.specs.JobFile.{File, Wall, Load, Entry, mostWalls, mostLoadsOnWall, loadFits}
+use Rattle.rules.specs.Answered.{isWorked, refusedIf, _orElse_, firstBadWall, firstBadLoad}
 use Rattle.rules.specs.Forces.{service, factored, slidingOf}
 use Rattle.rules.specs.Bearing.{serviceScale, factoredScale, blockUnder, serviceBlock, factoredBlock, pressedBy}
 use Rattle.rules.specs.ToeAndStem.{stemAction, twiceDepth, memberUnder, noAction}
@@ -45,6 +45,10 @@ fits wall loads = isWorked (examined wall loads)
 unfoldable pub firstUnfit : Wall → ℕ → List Load → ℕ
 firstUnfit wall number [] = 0
 firstUnfit wall number (load ∷ rest) = cond (loadFits wall load) (firstUnfit wall (suc number) rest) number
+
+-- 6 and 7 of the load with a number: whether it fits, and how many were passed on its wall
+abbrev pub loadAnswer : Bool → ℕ → ℕ → Answer
+loadAnswer isFit passed number = refusedIf (not isFit) (LoadOutOfRange number) orElse refusedIf (leb mostLoadsOnWall passed) (NinthLoad number)
 
 -- ---- its forces, or the refusal and every figure 0
 

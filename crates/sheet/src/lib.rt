@@ -3,7 +3,6 @@
 mod drawn;
 mod figures;
 
-use job::FILE_ROOM;
 use job::LOAD_ROOM;
 use job::MOST_WALLS;
 use job::PlaceRow;
@@ -13,6 +12,7 @@ use rules::Drawn;
 use rules::LINE;
 use rules::LineNumbers;
 use text::LINE_ROOM;
+use writing::FILE_ROOM;
 ghost use mathlib.Core.Path.{_≡_};
 ghost use mathlib.Core.List.{[]};
 ghost use Prim.Native.Nat.{_<_, _*_, _≤_};
@@ -148,6 +148,6 @@ pub fn rewrite(job: &[u8], out: &mut [u8]) -> usize
     }
     let wall_numbers = taken.walls;
     let load_numbers = taken.loads;
-    let written = job::write(&walls[..wall_numbers], &loads[..load_numbers], out);
+    let written = writing::write(&walls[..wall_numbers], &loads[..load_numbers], out);
     written.bytes
 }

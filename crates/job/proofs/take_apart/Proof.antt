@@ -10,7 +10,7 @@ use lib.Seq.{length-take-le}
 use Rattle.rules.specs.JobFile.{entriesAt}
 use Rattle.rules.specs.Answered.{isWorked}
 use Rattle.rules.proofs.Rewritten.{taken-fits}
-use Rattle.job.proofs.Writing.{not-taken, all-taken}
+use Rattle.job.proofs.Taking.{not-taken, all-taken}
 use Rattle.job.proofs.take_apart.Statement.{statement}
 use Rattle.job.proofs.take_apart.Tie as tie
 

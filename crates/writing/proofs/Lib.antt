@@ -1,0 +1,3 @@
+pub mod LentRecords
+pub mod Once
+pub mod Writing
