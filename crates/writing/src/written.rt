@@ -42,7 +42,7 @@ pub fn writing_answer(walls: &[u32], loads: &[u32], room: usize) -> Answer
     reply::or_else(answer, short)
 }
 
-// The header of a file with so many walls and loads.
+// The header, by how many walls and how many loads there are.
 fn put_header(walls: u16, loads: u16, out: &mut [u8])
     requires { ⌜ (walls ≤ mostWalls) × (loads ≤ mostLoads) × (headerBytes ≤ length (now out)) ⌝ }
     ensures { λ _. ⌜ now (out .exit) ≡ onto (headerOf walls loads) (now (out .entry)) ⌝ }
