@@ -38,9 +38,11 @@ enum {
     OFFICE_WALL_FIELDS = 31,  /* numbers in a wall's record */
     OFFICE_LOAD_FIELDS = 5,   /* numbers in a load's record */
     OFFICE_MOST_LOADS = 512,  /* loads that a job may have */
-    OFFICE_WALL_ROOM = 1984,  /* numbers, room for the walls of any job */
-    OFFICE_LOAD_ROOM = 2560,  /* numbers, room for its loads */
-    OFFICE_FILE_ROOM = 18188  /* bytes, room for any job */
+    /* numbers, room for the walls of any job, and for its loads: 1984 and 2560 */
+    OFFICE_WALL_ROOM = OFFICE_WALL_FIELDS * OFFICE_MOST_WALLS,
+    OFFICE_LOAD_ROOM = OFFICE_LOAD_FIELDS * OFFICE_MOST_LOADS,
+    /* bytes, room for any job: 18188 */
+    OFFICE_FILE_ROOM = 12 + 4 * OFFICE_WALL_ROOM + 4 * OFFICE_LOAD_ROOM
 };
 
 /* ---- what is answered, packed in one number: the place in the low 32 bits, the refusal's number in the next 16, shape or bytes above */
