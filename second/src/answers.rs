@@ -1,4 +1,5 @@
-//! Document 01, "What is answered": the refusals and the order of the tests.
+//! Document 01, "What is answered": the refusals and the order of the tests; with
+//! document 02, "#102 Say which field", for refusals 4, 5 and 10.
 
 use crate::job_file::{
     field_in_range, read_record, Header, Job, Load, RawLoad, RawWall, Wall, EDITION, HEADER_BYTES,
@@ -20,6 +21,19 @@ pub const COUNT_OUT_OF_RANGE: Refusal = Refusal {
     place: 0,
 };
 
+/// The refusal of an offset that isn't the one the counts give.
+pub const WRONG_OFFSET: Refusal = Refusal {
+    number: 4,
+    place: 0,
+};
+
+/// The refusal of a length that isn't the one the counts give, or isn't the
+/// input's.
+pub const WRONG_LENGTH: Refusal = Refusal {
+    number: 10,
+    place: 0,
+};
+
 /// The refusal of a lent buffer that is too short, after all others.
 pub const BUFFER_TOO_SHORT: Refusal = Refusal {
     number: 8,
@@ -31,6 +45,17 @@ pub const OUTPUT_TOO_SHORT: Refusal = Refusal {
     number: 9,
     place: 0,
 };
+
+impl Refusal {
+    /// The refusal of a wall's field out of range, both counted from 1. There are
+    /// fewer than a hundred fields, so that its place says which of them.
+    pub fn of_field(wall: usize, field: usize) -> Refusal {
+        Refusal {
+            number: 5,
+            place: (100 * wall + field) as u64,
+        }
+    }
+}
 
 impl fmt::Display for Refusal {
     fn fmt(&self, out: &mut fmt::Formatter<'_>) -> fmt::Result {
@@ -46,7 +71,8 @@ fn refuse<T>(number: u8, place: usize) -> Result<T, Refusal> {
 }
 
 /// Takes a file in, or gives the first refusal found: the header (both counts
-/// before any offset), then all walls in file order, then all loads.
+/// before any offset, both offsets before the length), then all walls in file
+/// order, then all loads.
 pub fn accept(input: &[u8]) -> Result<Job, Refusal> {
     let header = accept_header(input)?;
     let (walls, loads) = (usize::from(header.walls), usize::from(header.loads));
@@ -66,11 +92,14 @@ fn accept_header(input: &[u8]) -> Result<Header, Refusal> {
     }
     let (walls, loads) = (usize::from(header.walls), usize::from(header.loads));
     accept_counts(walls, loads)?;
-    if header == Header::due(walls, loads) && usize::from(header.length) == input.len() {
-        Ok(header)
-    } else {
-        refuse(4, 0)
+    let due = Header::due(walls, loads);
+    if header.first_wall != due.first_wall || header.first_load != due.first_load {
+        return Err(WRONG_OFFSET);
     }
+    if header.length != due.length || usize::from(header.length) != input.len() {
+        return Err(WRONG_LENGTH);
+    }
+    Ok(header)
 }
 
 /// Whether a job may have so many walls and loads.
@@ -94,14 +123,19 @@ pub fn accept_records(
 }
 
 fn accept_walls(records: impl Iterator<Item = RawWall>) -> Result<Vec<Wall>, Refusal> {
-    let mut walls = Vec::new();
-    for (index, raw) in records.enumerate() {
-        if !(0..WALL_FIELDS).all(|field| field_in_range(&raw, field)) {
-            return refuse(5, index + 1);
-        }
-        walls.push(Wall::from_raw(&raw));
+    let numbered = (1..).zip(records);
+    numbered
+        .map(|(number, raw)| accept_wall(number, &raw))
+        .collect()
+}
+
+/// Takes in the wall of a number, or names the first of its fields, in their
+/// order, that is out of range.
+pub fn accept_wall(number: usize, raw: &RawWall) -> Result<Wall, Refusal> {
+    match (0..WALL_FIELDS).find(|index| !field_in_range(raw, *index)) {
+        Some(index) => Err(Refusal::of_field(number, index + 1)),
+        None => Ok(Wall::from_raw(raw)),
     }
-    Ok(walls)
 }
 
 /// Reading taken: load by load, each one for 6 and then for 7, so that a ninth

@@ -100,7 +100,8 @@ pub const RANGES: [Range; WALL_FIELDS] = [
     Between(1, 5000),
 ];
 
-/// Whether a wall field, counted from 0, is within its range.
+/// Whether a wall field, counted from 0, is within its range. Water is judged by
+/// the heights of its own record as they stand, in range or not.
 pub fn field_in_range(raw: &RawWall, index: usize) -> bool {
     let value = raw[index];
     match RANGES[index] {

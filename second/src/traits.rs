@@ -23,6 +23,7 @@ pub const VOCABULARY: &[&str] = &[
     "refused-5",
     "refused-6",
     "refused-7",
+    "refused-10",
     // The job.
     "one-wall",
     "few-walls",
@@ -168,7 +169,9 @@ fn refusal_word(number: u8) -> &'static str {
         4 => "refused-4",
         5 => "refused-5",
         6 => "refused-6",
-        _ => "refused-7",
+        7 => "refused-7",
+        10 => "refused-10",
+        _ => unreachable!("no job file is refused with {number}"),
     }
 }
 

@@ -1,23 +1,28 @@
 //! The jobs that the gate gives to `crates/casebook`: they are the generator's,
 //! they touch everything, and the text it is held to is this program's.
 
+mod common;
+
+use common::ENDS;
 use second::answers::accept;
 use second::generator::samples;
-use second::rewritten;
+use second::job_file::{field, read_record, RawWall};
 use second::traits::{of, VOCABULARY};
+use second::{rewritten, sheet};
 use std::collections::{BTreeMap, BTreeSet};
 use std::fs::{read, read_dir, read_to_string, File};
 use std::path::{Path, PathBuf};
 use std::process::Command;
 
 const SEED: u64 = 57;
-const COUNT: usize = 918;
+const COUNT: usize = 1736;
 
 /// So many jobs of a kind are taken, the first ones.
 fn taken(kind: &str) -> usize {
     match kind {
-        "edges" => 34,
-        "toe-and-stem" => 16,
+        "refused-field" => 62,
+        "edges" | "refused-offset" => 34,
+        "toe-and-stem" | "refused-wall" => 16,
         "raw" => 8,
         _ => 7,
     }
@@ -59,7 +64,7 @@ fn the_jobs_are_the_generators_byte_for_byte() {
     for (name, bytes) in &made {
         assert!(kept[name] == *bytes, "{name} isn't what generate makes");
     }
-    assert_eq!(kept.len(), 226);
+    assert_eq!(kept.len(), 324);
 }
 
 #[test]
@@ -90,6 +95,30 @@ fn last_line() -> String {
     let accepted = jobs.values().filter(|job| accept(job).is_ok()).count();
     assert_eq!(again, accepted);
     format!("{again} jobs written again, byte for byte\n")
+}
+
+/// Of each field a job with the value just below its range, or what -1 becomes
+/// where that begins at 0, and one with the value just above it.
+#[test]
+fn every_field_is_refused_below_and_above_its_range() {
+    let jobs = kept();
+    for (index, (low, high)) in ENDS.into_iter().enumerate() {
+        for above in [false, true] {
+            let number = 2 * index + 1 + usize::from(above);
+            let job = &jobs[&format!("refused-field-{number:04}.job")];
+            let walls: [RawWall; 3] = std::array::from_fn(|i| read_record(job, 12 + 124 * i));
+            let beyond = |wall: &RawWall| {
+                let high = match index {
+                    field::WATER_HEIGHT => wall[field::STEM_HEIGHT] + wall[field::BASE_THICKNESS],
+                    _ => high,
+                };
+                wall[index] == if above { high + 1 } else { low.wrapping_sub(1) }
+            };
+            let wall = walls.iter().position(beyond).unwrap() + 1;
+            let refusal = format!("refused 5 {wall}{:02}\n", index + 1);
+            assert_eq!(sheet(job), refusal, "refused-field {number}");
+        }
+    }
 }
 
 /// Every refusal, every block in service and factored, every bit set and

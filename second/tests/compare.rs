@@ -4,6 +4,7 @@
 use second::answers::accept;
 use second::compare::{run, Found, Until, Wish};
 use second::generator::{numbered, KINDS};
+use second::job_file::{field_in_range, read_numbers, Header, WALL_FIELDS};
 use second::office::{Office, Packed, Second, TEXT_ROOM};
 use second::sheet_line::{STEM_STEEL, TOE_STEEL};
 use second::writing::records;
@@ -37,8 +38,19 @@ faults! {
     LastNumber,
     NumberBehind,
     NumberAfterRefusal,
-    PlaceOfWall,
     PlaceOfLoad,
+    PlaceOfLoadMultiplied,
+    WallFromNought,
+    FieldFromNought,
+    WallAlone,
+    LastBadField,
+    HeightsAfterWater,
+    TenBeforeFour,
+    FourForLength,
+    FourForInputsLength,
+    FiveBeforeTen,
+    LengthOfInputAlone,
+    LengthOfCountsAlone,
     NinthAsBadLoad,
     OneTooFewTaken,
     TooShortTestedFirst,
@@ -46,12 +58,14 @@ faults! {
     LengthOfText,
     ByteBehindText,
     TextIntoLess,
+    WallAloneInText,
     BitOfFigure,
     FiguresOfNothing,
     TrianglesSwapped,
     ShapeOfRefusal,
     NoSuchWallLast,
     PlaceOfNoWall,
+    WallAloneInDrawing,
     SteelOfTheOther,
     AnyBitOfNumber,
     OffsetFromLoads,
@@ -73,6 +87,11 @@ faults! {
     AllLoadsForSixFirst,
     CountCutTo16Bits,
     PlaceOfWrittenLoad,
+    WrittenLoadMultiplied,
+    WallAloneInWriting,
+    FieldFromNoughtInWriting,
+    LastBadFieldInWriting,
+    HeightsAfterWaterInWriting,
     LastLoadNotTaken,
     NumberTurnedRound,
     NumberBehindWalls,
@@ -84,6 +103,8 @@ faults! {
     OneLoadNumberTooFewTaken,
     RoomsTakenTogether,
     WallsThoughLoadsTooShort,
+    WallAloneInRecords,
+    FourForLengthInRecords,
     Panic,
 }
 
@@ -91,6 +112,32 @@ struct Wrong(Fault);
 
 fn numbers_of(job: &[u8]) -> usize {
     accept(job).map_or(16, |job| 16 * job.walls.len())
+}
+
+/// A refusal 5 of some walls with a place that is made wrong.
+fn misplaced(fault: Fault, answer: Packed, walls: &[u32]) -> Packed {
+    let wall_number = answer.place() / 100;
+    let start = WALL_FIELDS * (wall_number as usize - 1);
+    let wall = walls[start..start + WALL_FIELDS].try_into().unwrap();
+    let bad: Vec<u64> = (0..WALL_FIELDS)
+        .filter(|index| !field_in_range(&wall, *index))
+        .map(|index| index as u64 + 1)
+        .collect();
+    let height_and_water = matches!(bad[0], 2 | 6) && bad.contains(&9);
+    let place = match fault {
+        WallFromNought => answer.place() - 100,
+        FieldFromNought => answer.place() - 1,
+        WallAlone => wall_number,
+        LastBadField => 100 * wall_number + bad[bad.len() - 1],
+        HeightsAfterWater if height_and_water => 100 * wall_number + 9,
+        _ => answer.place(),
+    };
+    Packed(5 << 32 | place)
+}
+
+/// The same refusal with a hundred times its place.
+fn multiplied(answer: Packed) -> Packed {
+    Packed((answer.number() << 32) | (100 * answer.place()))
 }
 
 impl Office for Wrong {
@@ -101,11 +148,14 @@ impl Office for Wrong {
             (LastNumber, 0) => out[numbers - 1] += 1,
             (NumberBehind, 0) if out.len() > numbers => out[numbers] = 0,
             (NumberAfterRefusal, 1..) if !out.is_empty() => out[0] = 0,
-            (PlaceOfWall, 5) | (PlaceOfLoad, 6 | 7) => return Packed(answer.0 - 1),
+            (PlaceOfLoad, 6 | 7) => return Packed(answer.0 - 1),
+            (PlaceOfLoadMultiplied, 6 | 7) => return multiplied(answer),
             (NinthAsBadLoad, 7) => return Packed(answer.0 - (1 << 32)),
             (OneTooFewTaken, 8) if out.len() == numbers - 1 => return Packed::WORKED,
             (TooShortTestedFirst, 1..) if out.is_empty() => return Packed(8 << 32),
             (Panic, 7) => panic!("a ninth load"),
+            (_, 4 | 10) => return self.spoil_header_refusal(answer, job, out),
+            (_, 5) => return misplaced(self.0, answer, &read_numbers(&job[12..])),
             _ => {}
         }
         answer
@@ -118,6 +168,10 @@ impl Office for Wrong {
             LengthOfText if printed > 0 => return printed - 1,
             ByteBehindText if printed > 0 => out[printed] = 0,
             TextIntoLess if out.len() == TEXT_ROOM - 1 => out[0] = b'1',
+            WallAloneInText if out.starts_with(b"refused 5 ") => {
+                out[printed - 3] = b'\n';
+                return printed - 2;
+            }
             _ => {}
         }
         printed
@@ -133,6 +187,9 @@ impl Office for Wrong {
             ShapeOfRefusal if !drawn => return Packed(answer.0 | 1 << 48),
             NoSuchWallLast if answer.number() == 18 && out.len() < 5 => return Packed(8 << 32),
             PlaceOfNoWall if answer.place() == u64::from(u32::MAX) => return Packed(18 << 32),
+            WallAloneInDrawing if answer.number() == 5 => {
+                return misplaced(WallAlone, answer, &read_numbers(&job[12..]));
+            }
             _ => {}
         }
         answer
@@ -169,8 +226,12 @@ impl Office for Wrong {
             (NumberBehindWalls, 0) if walls.len() > wall_numbers => walls[wall_numbers] = 0,
             (NumberBehindLoads, 0) if loads.len() > load_numbers => loads[load_numbers] = 0,
             (BytesOfRecords, 0) => return Packed((job.len() as u64) << 48),
-            (NumberOfRefusedJob, 1..=7) if !loads.is_empty() => loads[0] = 1,
-            (EightFirst, 1..=7) if walls.is_empty() => return Packed(8 << 32),
+            (NumberOfRefusedJob, 1..=7 | 10) if !loads.is_empty() => loads[0] = 1,
+            (EightFirst, 1..=7 | 10) if walls.is_empty() => return Packed(8 << 32),
+            (WallAloneInRecords, 5) => {
+                return misplaced(WallAlone, answer, &read_numbers(&job[12..]));
+            }
+            (FourForLengthInRecords, 10) => return Packed(4 << 32),
             (OneWallNumberTooFewTaken, 8) if walls.len() + 1 == wall_numbers => {
                 return Packed::WORKED;
             }
@@ -190,6 +251,53 @@ impl Office for Wrong {
 }
 
 impl Wrong {
+    /// A refusal of an offset or of the length made wrong.
+    fn spoil_header_refusal(&self, answer: Packed, job: &[u8], out: &mut [i64]) -> Packed {
+        let header = Header::read(job).unwrap();
+        let due = Header::due(header.walls.into(), header.loads.into());
+        let due_length = usize::from(due.length);
+        let by_counts = header.length == due.length;
+        let by_input = usize::from(header.length) == job.len();
+        match (self.0, answer.number()) {
+            (TenBeforeFour, 4) if !by_counts || !by_input => Packed(10 << 32),
+            (FourForLength, 10) => Packed(4 << 32),
+            (FourForInputsLength, 10) if by_counts => Packed(4 << 32),
+            (FiveBeforeTen, 10) => {
+                let numbers = read_numbers(&job[12..]);
+                let walls = numbers.get(..WALL_FIELDS * usize::from(header.walls));
+                let found = Second.write(walls.unwrap_or_default(), &[], &mut []);
+                if found.number() == 5 {
+                    found
+                } else {
+                    answer
+                }
+            }
+            (LengthOfInputAlone, 10) if by_input => {
+                let mut job = job.to_vec();
+                job.resize(due_length, 0);
+                job[10..12].copy_from_slice(&due.length.to_le_bytes());
+                Second.calculate(&job, out)
+            }
+            (LengthOfCountsAlone, 10) if by_counts && job.len() > due_length => {
+                Second.calculate(&job[..due_length], out)
+            }
+            _ => answer,
+        }
+    }
+
+    /// The place of a refusal of records made wrong.
+    fn misplace_written(&self, answer: Packed, walls: &[u32]) -> Packed {
+        match (self.0, answer.number()) {
+            (PlaceOfWrittenLoad, 6 | 7) => Packed(answer.0 - 1),
+            (WrittenLoadMultiplied, 6 | 7) => multiplied(answer),
+            (WallAloneInWriting, 5) => misplaced(WallAlone, answer, walls),
+            (FieldFromNoughtInWriting, 5) => misplaced(FieldFromNought, answer, walls),
+            (LastBadFieldInWriting, 5) => misplaced(LastBadField, answer, walls),
+            (HeightsAfterWaterInWriting, 5) => misplaced(HeightsAfterWater, answer, walls),
+            _ => answer,
+        }
+    }
+
     /// A file that was written, or what is said of it, made wrong.
     fn spoil_file(&self, answer: Packed, loads: &[u32], before: &[u8], out: &mut [u8]) -> Packed {
         let bytes = answer.bytes() as usize;
@@ -241,10 +349,9 @@ impl Wrong {
                     return Packed(later.0 + answer.place());
                 }
             }
-            (PlaceOfWrittenLoad, 6 | 7) => return Packed(answer.0 - 1),
             _ => {}
         }
-        answer
+        self.misplace_written(answer, walls)
     }
 
     /// Buffers taken, or looked into, that must be refused with 3.
@@ -312,6 +419,26 @@ fn what_differs_is_said() {
 }
 
 #[test]
+fn what_differs_in_places_is_said() {
+    let said = |fault| {
+        let found = found(&Wrong(fault), 1).unwrap();
+        let words = found.what.split_once(": the answer is ").unwrap().1;
+        let (given, due) = words.split_once(" and not ").unwrap();
+        let kind = found.name.rsplit_once('-').unwrap().0;
+        (kind.to_string(), given.to_string(), due.to_string())
+    };
+    let answer = |number, place| format!("(number {number}, place {place}, highest bits 0)");
+    let wall = |given, due| ("refused-wall".into(), answer(5, given), answer(5, due));
+    assert_eq!(said(WallAlone), wall(2, 204));
+    assert_eq!(said(WallFromNought), wall(104, 204));
+    assert_eq!(said(FieldFromNought), wall(203, 204));
+    assert_eq!(said(HeightsAfterWater), wall(309, 302));
+    let header = |given, due| ("refused-offset".into(), answer(given, 0), answer(due, 0));
+    assert_eq!(said(TenBeforeFour), header(10, 4));
+    assert_eq!(said(FourForInputsLength), header(4, 10));
+}
+
+#[test]
 fn what_differs_in_writing_is_said() {
     let said = |fault| found(&Wrong(fault), 1).map_or(String::new(), |found| found.what);
     let own = "write of 93 and 10 numbers (the job's own), 424 bytes lent: ";
@@ -321,7 +448,7 @@ fn what_differs_in_writing_is_said() {
     let words = said(LastRecordLeftOut);
     assert!(words.starts_with(&format!("{own}place 404 of what was lent")));
     let words = said(WallOf32Numbers);
-    assert!(words.contains("(one wall of 32 numbers), 176 bytes lent: the answer is (number 6"));
+    assert!(words.contains("one wall of 32 numbers), 296 bytes lent: the answer is (number 6"));
     let words = said(NumberBehindLoads);
     assert!(words.starts_with("records, "), "{words}");
     assert!(

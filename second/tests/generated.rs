@@ -4,8 +4,10 @@ mod common;
 
 use common::{samples_of_each_kind, SEED};
 use second::generator::draft::ends;
-use second::generator::{sample, samples, KINDS};
-use second::job_file::{read_record, RawWall, HEADER_BYTES, WALL_FIELDS};
+use second::generator::{sample, samples, Due, KINDS};
+use second::job_file::{
+    field_in_range, read_record, Header, RawWall, HEADER_BYTES, WALL_BYTES, WALL_FIELDS,
+};
 use second::traits::{line, of, VOCABULARY};
 use std::collections::{BTreeMap, BTreeSet};
 
@@ -29,7 +31,7 @@ fn the_bytes_of_a_seed_stay_what_they_were() {
             sum = (sum ^ u64::from(byte)).wrapping_mul(0x0100_0000_01b3);
         }
     }
-    assert_eq!(sum, 0xdcc0_8cff_3494_7d1a);
+    assert_eq!(sum, 0xba1e_c90c_91f2_06fb);
 }
 
 #[test]
@@ -57,12 +59,15 @@ fn every_trait_is_reached_and_every_word_is_known() {
     assert!(missed.is_empty(), "missed: {missed:?}");
 }
 
+fn kind(wanted: &str) -> usize {
+    KINDS.iter().position(|(name, _)| *name == wanted).unwrap()
+}
+
 #[test]
 fn every_field_is_met_at_both_its_ends() {
-    let kind = KINDS.iter().position(|(name, _)| *name == "field-ends");
     let mut met = [(false, false); WALL_FIELDS];
     for index in 0..2 * WALL_FIELDS {
-        let bytes = sample(SEED, kind.unwrap(), index).bytes;
+        let bytes = sample(SEED, kind("field-ends"), index).bytes;
         let wall: RawWall = read_record(&bytes, HEADER_BYTES);
         for (place, met) in met.iter_mut().enumerate() {
             let (low, high) = ends(&wall, place);
@@ -71,6 +76,77 @@ fn every_field_is_met_at_both_its_ends() {
         }
     }
     assert_eq!(met, [(true, true); WALL_FIELDS]);
+}
+
+/// Of every field a value below and one above, in each of three walls, and no
+/// other fault.
+#[test]
+fn every_field_is_met_out_of_range_in_three_walls() {
+    let mut met = BTreeSet::new();
+    for index in 0..6 * WALL_FIELDS {
+        let sample = sample(SEED, kind("refused-field"), index);
+        let bad = bad_fields(&sample.bytes);
+        assert_eq!(bad.len(), 1, "refused-field of index {index}");
+        let (number, place, below) = bad[0];
+        let answer = Due::Refused(5, 100 * number as u64 + place as u64 + 1);
+        assert_eq!(sample.due, answer);
+        met.insert((number, place, below));
+    }
+    assert_eq!(met.len(), 6 * WALL_FIELDS);
+}
+
+/// The bad fields of three walls: the wall's number, the field counted from 0, and
+/// whether its value is below the range or is what -1 becomes.
+fn bad_fields(bytes: &[u8]) -> Vec<(usize, usize, bool)> {
+    let mut bad = Vec::new();
+    for number in 1..=3 {
+        let wall: RawWall = read_record(bytes, HEADER_BYTES + WALL_BYTES * (number - 1));
+        for place in (0..WALL_FIELDS).filter(|place| !field_in_range(&wall, *place)) {
+            let (low, _) = ends(&wall, place);
+            bad.push((number, place, wall[place] == low.wrapping_sub(1)));
+        }
+    }
+    bad
+}
+
+#[test]
+fn bad_walls_have_one_bad_field_or_more() {
+    let (mut alone, mut heights, mut walls) = (0, 0, 0);
+    let mut pairs = BTreeSet::new();
+    for index in 0..200 {
+        let bad = bad_fields(&sample(SEED, kind("refused-wall"), index).bytes);
+        match bad[..] {
+            [_] => alone += 1,
+            [(wall, 1 | 5, _), (other, 8, _)] if wall == other => heights += 1,
+            [(wall, first, _), (other, second, _)] if wall == other => {
+                pairs.insert((first, second));
+            }
+            _ => walls += usize::from(bad[0].0 != bad[bad.len() - 1].0),
+        }
+    }
+    let pairs = pairs.len();
+    let counts = [alone, heights, walls, pairs];
+    assert!(counts.iter().all(|count| *count > 15), "{counts:?}");
+}
+
+/// Offsets right or wrong, beside a stated length that is or isn't the one that
+/// the counts give, and is or isn't the input's: all but all three right.
+#[test]
+fn offsets_and_lengths_are_wrong_in_every_way() {
+    let mut met = BTreeSet::new();
+    for index in 0..34 {
+        let sample = sample(SEED, kind("refused-offset"), index);
+        let header = Header::read(&sample.bytes).unwrap();
+        let due = Header::due(header.walls.into(), header.loads.into());
+        let offsets = (header.first_wall, header.first_load) == (due.first_wall, due.first_load);
+        let by_counts = header.length == due.length;
+        let by_input = usize::from(header.length) == sample.bytes.len();
+        let number = if offsets { 10 } else { 4 };
+        assert_eq!(sample.due, Due::Refused(number, 0));
+        met.insert((offsets, by_counts, by_input));
+    }
+    assert_eq!(met.len(), 7);
+    assert!(!met.contains(&(true, true, true)));
 }
 
 #[test]
@@ -83,7 +159,6 @@ fn the_line_starts_with_the_answer() {
 #[test]
 fn mangled_and_raw_bytes_are_answered() {
     let mut accepted = 0;
-    let kind = |wanted: &str| KINDS.iter().position(|(name, _)| *name == wanted).unwrap();
     for index in 0..1500 {
         for kind in [kind("mangled"), kind("raw")] {
             let bytes = sample(SEED + 1, kind, index).bytes;

@@ -49,7 +49,7 @@ fn a_buffer_too_short_is_refused_last_and_left_alone() {
     draft.walls[1][0] = 2;
     let refused = Err(Refusal {
         number: 5,
-        place: 2,
+        place: 201,
     });
     for room in [0, 31, 32] {
         let mut out = vec![-7; room];
@@ -138,7 +138,7 @@ fn a_written_file_says_how_many_bytes_it_has() {
     let refusals = [
         (&CASE_A[..30], &[][..], 3 << 32),
         (&[0; 31], &[4], 3 << 32),
-        (&[0; 31], &[0; 5], 5 << 32 | 1),
+        (&[0; 31], &[0; 5], 5 << 32 | 102),
         (&CASE_A, &[0; 5], 6 << 32 | 1),
         (&CASE_A, &[1, 0, 0, 0, 0].repeat(9), 7 << 32 | 9),
     ];
@@ -173,4 +173,7 @@ fn records_are_taken_apart_into_two_buffers() {
     }
     draft.loads[0][2] = 2301;
     assert_eq!(apart(&draft.bytes(), 0, 0).0, Packed(6 << 32 | 1));
+    draft.walls[0][30] = 0;
+    assert_eq!(apart(&draft.bytes(), 0, 0).0, Packed(5 << 32 | 131));
+    assert_eq!(apart(&draft.bytes()[..155], 0, 0).0, Packed(10 << 32));
 }

@@ -48,6 +48,12 @@ fn refusals_are_printed_alone() {
     draft.loads.push([1, 0, 2301, 0, 0]);
     assert_eq!(run(&[], &draft.bytes()).0, "refused 6 1\n");
     assert_eq!(run(&["draw", "1"], &draft.bytes()).0, "refused 6 1\n");
+    draft.walls[0][8] = 3301;
+    for arguments in [&[][..], &["draw", "1"], &["rewrite"]] {
+        assert_eq!(run(arguments, &draft.bytes()).0, "refused 5 109\n");
+        assert_eq!(run(arguments, &case_a_bytes()[..12]).0, "refused 10 0\n");
+    }
+    assert_eq!(run(&["traits"], &case_a_bytes()[..12]).0, "refused-10\n");
     assert_eq!(run(&["draw", "0"], &case_a_bytes()).0, "refused 18 0\n");
 }
 
@@ -55,10 +61,10 @@ fn refusals_are_printed_alone() {
 fn an_input_past_all_bounds_is_refused() {
     let mut long = case_a_bytes();
     long.resize(3_000_000, 1);
-    assert_eq!(run(&[], &long).0, "refused 4 0\n");
+    assert_eq!(run(&[], &long).0, "refused 10 0\n");
     // Right when its length is cut to 16 bits.
     long.resize(65_536 + 136, 1);
-    assert_eq!(run(&[], &long).0, "refused 4 0\n");
+    assert_eq!(run(&[], &long).0, "refused 10 0\n");
 }
 
 #[test]

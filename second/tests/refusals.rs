@@ -1,13 +1,14 @@
-//! Document 01, "What is answered": every refusal, its place and the order.
+//! Document 01, "What is answered", with document 02, "#102 Say which field": every
+//! refusal, its place and the order.
 
 mod common;
 
-use common::{case_a_bytes, samples_of_each_kind, CASE_A};
-use second::answers::{accept, Refusal};
+use common::{case_a_bytes, samples_of_each_kind, CASE_A, ENDS};
+use second::answers::{accept, accept_wall, Refusal};
 use second::drawing::draw;
 use second::generator::draft::{Draft, ACROSS, DOWN};
 use second::generator::Due;
-use second::job_file::{field, RawLoad};
+use second::job_file::{field, RawLoad, RawWall};
 
 fn answer(bytes: &[u8]) -> Option<(u8, u64)> {
     accept(bytes).err().map(|r| (r.number, r.place))
@@ -30,20 +31,22 @@ fn one_fewer_than_twelve_bytes_before_all() {
         assert_eq!(answer(&case_a_bytes()[..count]), Some((1, 0)));
         assert_eq!(answer(&vec![9; count]), Some((1, 0)));
     }
-    assert_eq!(answer(&case_a_bytes()[..12]), Some((4, 0)));
+    assert_eq!(answer(&case_a_bytes()[..12]), Some((10, 0)));
+}
+
+/// The answer to three walls behind a header with some numbers changed.
+fn with_header(changes: &[(usize, u16)]) -> Option<(u8, u64)> {
+    let draft = three(&[]);
+    let mut header = draft.header();
+    for (place, value) in changes {
+        header[*place] = *value;
+    }
+    answer(&draft.bytes_with(header))
 }
 
 #[test]
 fn two_before_three_before_four() {
-    let draft = three(&[]);
-    let due = draft.header();
-    let with = |changes: &[(usize, u16)]| {
-        let mut header = due;
-        for (place, value) in changes {
-            header[*place] = *value;
-        }
-        answer(&draft.bytes_with(header))
-    };
+    let with = with_header;
     assert_eq!(with(&[]), None);
     assert_eq!(with(&[(0, 2)]), Some((2, 0)));
     assert_eq!(with(&[(0, 0), (1, 0), (5, 0)]), Some((2, 0)));
@@ -51,28 +54,78 @@ fn two_before_three_before_four() {
         assert_eq!(with(&[(place, value)]), Some((3, 0)));
         assert_eq!(with(&[(place, value), (2, 13)]), Some((3, 0)));
     }
-    for place in [2, 4, 5] {
-        assert_eq!(with(&[(place, due[place] + 1)]), Some((4, 0)));
-        assert_eq!(with(&[(place, due[place] - 1)]), Some((4, 0)));
+    // The header of three walls is 1 3 12 0 384 384.
+    for (place, due) in [(2, 12), (4, 384)] {
+        for wrong in [due + 1, due - 1, 0, 65_535] {
+            assert_eq!(with(&[(place, wrong)]), Some((4, 0)));
+        }
     }
+    // A wall fewer: the loads' offset isn't the one that two walls give.
     assert_eq!(with(&[(1, 2)]), Some((4, 0)));
-    assert_eq!(with(&[(3, 1)]), Some((4, 0)));
+}
+
+/// Ten is for the length alone, by the counts and by the input.
+#[test]
+fn four_before_ten() {
+    let with = with_header;
+    for wrong in [385, 383, 0, 12, 65_535] {
+        assert_eq!(with(&[(5, wrong)]), Some((10, 0)));
+        for (place, offset) in [(2, 13), (2, 0), (4, 383), (4, 404)] {
+            assert_eq!(with(&[(5, wrong), (place, offset)]), Some((4, 0)));
+        }
+    }
+    // A load more: both offsets are right, and the length is not.
+    assert_eq!(with(&[(3, 1)]), Some((10, 0)));
+    assert_eq!(with(&[(3, 1), (5, 404)]), Some((10, 0)));
+    assert_eq!(with(&[(3, 513), (5, 0)]), Some((3, 0)));
+    assert_eq!(with(&[(0, 2), (5, 0)]), Some((2, 0)));
+}
+
+/// The stated length is to be the one that the counts give and the input's.
+#[test]
+fn ten_for_the_input_itself() {
+    let due = three(&[GOOD]).header();
+    let lengths = |stated: u16, input: usize, first_load: u16| {
+        let mut header = due;
+        (header[4], header[5]) = (first_load, stated);
+        let mut bytes = three(&[GOOD]).bytes_with(header);
+        bytes.resize(input, 0);
+        answer(&bytes)
+    };
+    assert_eq!(lengths(404, 404, 384), None);
+    let wrong = [
+        (404, 403),
+        (404, 405),
+        (404, 12),
+        (404, 404 + 65_536),
+        (403, 403),
+        (424, 424),
+        (12, 12),
+        (65_535, 65_535),
+        (403, 404),
+        (405, 403),
+    ];
+    for (stated, input) in wrong {
+        assert_eq!(lengths(stated, input, 384), Some((10, 0)));
+        assert_eq!(lengths(stated, input, 385), Some((4, 0)));
+    }
 }
 
 #[test]
-fn four_before_five_and_for_the_input_itself() {
+fn ten_before_five() {
     let mut draft = three(&[GOOD]);
     draft.walls[0][field::FY] = 0;
     let mut bytes = draft.bytes();
-    assert_eq!(answer(&bytes), Some((5, 1)));
+    assert_eq!(answer(&bytes), Some((5, 122)));
     bytes.push(0);
-    assert_eq!(answer(&bytes), Some((4, 0)));
+    assert_eq!(answer(&bytes), Some((10, 0)));
     bytes.truncate(bytes.len() - 2);
-    assert_eq!(answer(&bytes), Some((4, 0)));
-    // A length that is right only when cut to 16 bits.
-    let mut long = case_a_bytes();
-    long.resize(136 + 65_536, 0);
-    assert_eq!(answer(&long), Some((4, 0)));
+    assert_eq!(answer(&bytes), Some((10, 0)));
+    let mut header = draft.header();
+    header[5] -= 1;
+    assert_eq!(answer(&draft.bytes_with(header)), Some((10, 0)));
+    header[4] += 1;
+    assert_eq!(answer(&draft.bytes_with(header)), Some((4, 0)));
 }
 
 #[test]
@@ -92,75 +145,107 @@ fn counts_at_their_ends() {
     assert_eq!(full(64, 513), Some((3, 0)));
 }
 
-/// Lowest and highest values, as document 01 prints them, field by field.
-const ENDS: [(u32, u32); 31] = [
-    (0, 1),
-    (500, 8000),
-    (200, 1500),
-    (0, 5000),
-    (0, 5000),
-    (200, 1500),
-    (0, 1000),
-    (0, 1000),
-    (0, 3300),
-    (1500, 3000),
-    (1500, 3000),
-    (1000, 3000),
-    (1000, 3000),
-    (1000, 3000),
-    (1, 1000),
-    (1, 1000),
-    (0, 15_000),
-    (0, 1000),
-    (1, 1000),
-    (0, 10_000),
-    (20, 60),
-    (250, 500),
-    (0, 100),
-    (20, 75),
-    (8, 40),
-    (50, 500),
-    (20, 75),
-    (8, 40),
-    (50, 500),
-    (1, 5000),
-    (1, 5000),
-];
+/// The answer to three walls, one of them with some fields changed, and a bad load.
+fn with_fields(wall: usize, changes: &[(usize, u32)]) -> Option<(u8, u64)> {
+    let mut draft = three(&[BAD]);
+    for (place, value) in changes {
+        draft.walls[wall][*place] = *value;
+    }
+    answer(&draft.bytes())
+}
+
+/// What is left to refuse where all fields are in range.
+const IN_RANGE: Option<(u8, u64)> = Some((6, 1));
 
 #[test]
 fn five_each_field_at_and_past_its_ends() {
-    let with = |place: usize, value: u32| {
-        let mut draft = three(&[BAD]);
-        draft.walls[1][place] = value;
-        answer(&draft.bytes())
-    };
-    for (place, (low, high)) in ENDS.into_iter().enumerate() {
-        // In range, the bad load is what is left to refuse.
-        assert_eq!(with(place, low), Some((6, 1)), "field {}", place + 1);
-        assert_eq!(with(place, high), Some((6, 1)), "field {}", place + 1);
-        assert_eq!(with(place, high + 1), Some((5, 2)), "field {}", place + 1);
-        assert_eq!(with(place, u32::MAX), Some((5, 2)), "field {}", place + 1);
-        if low > 0 {
-            assert_eq!(with(place, low - 1), Some((5, 2)), "field {}", place + 1);
+    for (wall, hundreds) in [100, 200, 300].into_iter().enumerate() {
+        for (place, (low, high)) in ENDS.into_iter().enumerate() {
+            let with = |value| with_fields(wall, &[(place, value)]);
+            let refused = Some((5, hundreds + place as u64 + 1));
+            assert_eq!(with(low), IN_RANGE, "{refused:?}");
+            assert_eq!(with(high), IN_RANGE, "{refused:?}");
+            assert_eq!(with(high + 1), refused);
+            assert_eq!(with(u32::MAX), refused);
+            assert_eq!(with(low.wrapping_sub(1)), refused);
         }
     }
     for bar in 0..50 {
         let made = [8, 10, 12, 16, 20, 25, 32, 40].contains(&bar);
-        for place in [field::TOE_BAR, field::STEM_BAR] {
-            assert_eq!(with(place, bar), Some(if made { (6, 1) } else { (5, 2) }));
+        for (place, refused) in [(field::TOE_BAR, (5, 225)), (field::STEM_BAR, (5, 228))] {
+            let due = if made { IN_RANGE } else { Some(refused) };
+            assert_eq!(with_fields(1, &[(place, bar)]), due);
         }
     }
 }
 
 #[test]
-fn five_for_the_first_bad_wall() {
+fn five_for_the_first_bad_field_of_the_first_bad_wall() {
     let mut draft = three(&[]);
     draft.walls[2][field::KA] = 0;
-    assert_eq!(answer(&draft.bytes()), Some((5, 3)));
-    draft.walls[1][field::STEM_HEIGHT] = u32::MAX;
-    draft.walls[1][field::BASE_THICKNESS] = u32::MAX;
-    draft.walls[1][field::WATER_HEIGHT] = u32::MAX;
-    assert_eq!(answer(&draft.bytes()), Some((5, 2)));
+    assert_eq!(answer(&draft.bytes()), Some((5, 315)));
+    draft.walls[2][field::STEM_SHEAR_STRESS] = 0;
+    assert_eq!(answer(&draft.bytes()), Some((5, 315)));
+    draft.walls[1][field::STEM_SHEAR_STRESS] = 5001;
+    assert_eq!(answer(&draft.bytes()), Some((5, 231)));
+    draft.walls[1][field::KIND] = 2;
+    assert_eq!(answer(&draft.bytes()), Some((5, 201)));
+    draft.walls[0] = [u32::MAX; 31];
+    assert_eq!(answer(&draft.bytes()), Some((5, 101)));
+}
+
+/// Every two fields, whichever of them is spoilt first.
+#[test]
+fn five_for_the_first_of_two_bad_fields() {
+    for (first, (_, high)) in ENDS.into_iter().enumerate() {
+        for later in first + 1..31 {
+            let (one, other) = ((first, high + 1), (later, u32::MAX));
+            let refused = Some((5, 201 + first as u64));
+            assert_eq!(with_fields(1, &[one, other]), refused);
+            assert_eq!(with_fields(1, &[other, one]), refused);
+        }
+    }
+}
+
+/// Water goes by its own wall's heights as they stand, but they come before it.
+#[test]
+fn heights_are_found_bad_before_the_water() {
+    let with = |stem, base, water| {
+        let heights = [(field::STEM_HEIGHT, stem), (field::BASE_THICKNESS, base)];
+        let [stem, base] = heights;
+        with_fields(2, &[stem, base, (field::WATER_HEIGHT, water)])
+    };
+    assert_eq!(with(3000, 300, 3300), IN_RANGE);
+    assert_eq!(with(3000, 300, 3301), Some((5, 309)));
+    assert_eq!(with(8000, 1500, 9500), IN_RANGE);
+    assert_eq!(with(8000, 1500, 9501), Some((5, 309)));
+    assert_eq!(with(500, 200, 700), IN_RANGE);
+    assert_eq!(with(500, 200, 701), Some((5, 309)));
+    for water in [0, 699, 700, 701, u32::MAX] {
+        assert_eq!(with(499, 200, water), Some((5, 302)));
+        assert_eq!(with(500, 199, water), Some((5, 306)));
+        assert_eq!(with(499, 199, water), Some((5, 302)));
+        assert_eq!(with(u32::MAX, u32::MAX, water), Some((5, 302)));
+        assert_eq!(with(3000, u32::MAX, water), Some((5, 306)));
+    }
+}
+
+/// A wall by itself, and the same places in whatever job it stands.
+#[test]
+fn a_wall_alone_is_refused_as_wall_one() {
+    let place = |number: usize, raw: &RawWall| accept_wall(number, raw).map_err(|r| r.to_string());
+    assert!(place(1, &CASE_A).is_ok());
+    for (index, (_, high)) in ENDS.into_iter().enumerate() {
+        let mut raw = CASE_A;
+        raw[index] = high + 1;
+        let field = index + 1;
+        assert_eq!(place(1, &raw), Err(format!("refused 5 1{field:02}")));
+        assert_eq!(place(64, &raw), Err(format!("refused 5 64{field:02}")));
+    }
+    let mut walls = vec![CASE_A; 64];
+    walls[63][field::STEM_SHEAR_STRESS] = 0;
+    let loads = Vec::new();
+    assert_eq!(answer(&Draft { walls, loads }.bytes()), Some((5, 6431)));
 }
 
 #[test]
@@ -221,12 +306,16 @@ fn eighteen_after_every_other_refusal() {
     let mut bad = three(&[BAD]);
     bad.walls[2][field::FCU] = 19;
     let answer = refused(&bad.bytes(), 9).map(|r| (r.number, r.place));
-    assert_eq!(answer, Some((5, 3)));
+    assert_eq!(answer, Some((5, 321)));
+    let mut long = case_a_bytes();
+    long.push(0);
+    let answer = refused(&long, 9).map(|r| (r.number, r.place));
+    assert_eq!(answer, Some((10, 0)));
 }
 
 #[test]
 fn generated_refusals_are_the_ones_they_were_made_for() {
-    let mut seen = [0; 8];
+    let mut seen = [0; 11];
     for (name, sample) in samples_of_each_kind(70) {
         match sample.due {
             Due::Accepted => assert_eq!(answer(&sample.bytes), None, "{name}"),
@@ -237,5 +326,6 @@ fn generated_refusals_are_the_ones_they_were_made_for() {
             Due::Unknown => {}
         }
     }
-    assert!(seen[1..].iter().all(|count| *count > 10), "{seen:?}");
+    let wanted = [1, 2, 3, 4, 5, 6, 7, 10];
+    assert!(wanted.iter().all(|n| seen[*n] > 10), "{seen:?}");
 }

@@ -1,9 +1,10 @@
-//! Document 02, "#101 Write job files": every refusal, its place and the order,
-//! what stands in the lent buffers, and round trips.
+//! Document 02, "#101 Write job files", with the places of "#102 Say which field":
+//! every refusal, its place and the order, what stands in the lent buffers, and round
+//! trips.
 
 mod common;
 
-use common::{case_a_bytes, samples_of_each_kind, CASE_A};
+use common::{case_a_bytes, samples_of_each_kind, CASE_A, ENDS};
 use second::answers::{accept, Refusal};
 use second::generator::draft::{Draft, ACROSS, DOWN};
 use second::job_file::{field, Header, RawLoad, MOST_BYTES};
@@ -127,9 +128,13 @@ fn five_six_and_seven_with_their_places() {
     let mut records = three(&[GOOD, BAD]);
     assert_eq!(refused(&records), (6, 2));
     records.walls[62 + field::KA] = 0;
-    assert_eq!(refused(&records), (5, 3));
+    assert_eq!(refused(&records), (5, 315));
     records.walls[31 + field::WATER_HEIGHT] = 3301;
-    assert_eq!(refused(&records), (5, 2));
+    assert_eq!(refused(&records), (5, 209));
+    records.walls[31 + field::BASE_THICKNESS] = 1501;
+    assert_eq!(refused(&records), (5, 206));
+    records.walls[31 + field::STEM_HEIGHT] = 8001;
+    assert_eq!(refused(&records), (5, 202));
     let mut loads = vec![GOOD; 9];
     loads.insert(2, [2, ACROSS, 3300, 0, 200_000]);
     assert_eq!(refused(&three(&loads)), (7, 10));
@@ -139,6 +144,28 @@ fn five_six_and_seven_with_their_places() {
     assert_eq!(refused(&three(&loads)), (6, 10));
     loads[4] = BAD;
     assert_eq!(refused(&three(&loads)), (6, 5));
+}
+
+/// The writer names the field that the reader names, in each of three walls.
+#[test]
+fn a_bad_field_has_the_readers_place() {
+    for place in 0..93 {
+        let (wall, index) = (place / 31, place % 31);
+        let (low, high) = ENDS[index];
+        for value in [low.wrapping_sub(1), high + 1] {
+            let mut records = three(&[]);
+            records.walls[place] = value;
+            let due = (5, 100 * (wall as u64 + 1) + index as u64 + 1);
+            assert_eq!(refused(&records), due);
+            let mut draft = Draft {
+                walls: vec![CASE_A; 3],
+                loads: Vec::new(),
+            };
+            draft.walls[wall][index] = value;
+            let read = accept(&draft.bytes()).unwrap_err();
+            assert_eq!((read.number, read.place), due);
+        }
+    }
 }
 
 /// Each fault taken away shows the next; the room is the last.
@@ -155,7 +182,7 @@ fn three_before_five_before_six_before_seven_before_nine() {
     records.loads.push(0);
     assert_eq!(refused(&records), (3, 0));
     records.loads.pop();
-    assert_eq!(refused(&records), (5, 1));
+    assert_eq!(refused(&records), (5, 122));
     records.walls[field::FY] = 250;
     assert_eq!(refused(&records), (6, 1));
     records.loads[0] = 2;
@@ -169,12 +196,12 @@ fn three_before_five_before_six_before_seven_before_nine() {
 /// Of the numbers behind a right header the writer says what the reader says.
 #[test]
 fn records_are_refused_as_the_reader_would() {
-    let mut seen = [0; 10];
+    let mut seen = [0; 11];
     for (name, sample) in samples_of_each_kind(30) {
         let bytes = &sample.bytes;
         let answer = accept(bytes).map(|_| bytes.len());
         let number = answer.map_or_else(|refusal| refusal.number, |_| 0);
-        if (1..5).contains(&number) {
+        if [1, 2, 3, 4, 10].contains(&number) {
             continue;
         }
         let walls = usize::from(Header::read(bytes).unwrap().walls);
@@ -255,9 +282,13 @@ fn eight_where_either_buffer_is_too_short_after_all_others() {
     assert_eq!(answers(&job), [Err((8, 0)); 5]);
     job[404] = 4;
     assert_eq!(answers(&job), [Err((6, 2)); 5]);
+    job[265] = 0;
+    assert_eq!(answers(&job), [Err((5, 302)); 5]);
     job[260] = 2;
-    assert_eq!(answers(&job), [Err((5, 3)); 5]);
+    assert_eq!(answers(&job), [Err((5, 301)); 5]);
     job[10] = 0;
+    assert_eq!(answers(&job), [Err((10, 0)); 5]);
+    job[8] = 0;
     assert_eq!(answers(&job), [Err((4, 0)); 5]);
     job[2] = 0;
     assert_eq!(answers(&job), [Err((3, 0)); 5]);

@@ -182,7 +182,7 @@ fn wall_out_of_range(random: &mut Random, records: &mut Records) {
     let (walls, _) = records.walls.as_chunks_mut::<WALL_FIELDS>();
     if let Some(wall) = any(random, walls) {
         let place = random.below(WALL_FIELDS);
-        wall[place] = out_of_range(wall, place, random.once_in(2));
+        wall[place] = out_of_range(random, wall, place);
     }
 }
 

@@ -6,11 +6,11 @@ use crate::office::Packed;
 use crate::sheet_line::Worked;
 use std::fmt;
 
-/// Numbers of answers: 0 for a success, 1 to 9 and 18 for refusals.
+/// Numbers of answers: 0 for a success, 1 to 10 and 18 for refusals.
 const ANSWERS: usize = 19;
 
 /// The refusals that any job may get, and those that any records may.
-const OF_A_JOB: &[usize] = &[1, 2, 3, 4, 5, 6, 7];
+const OF_A_JOB: &[usize] = &[1, 2, 3, 4, 5, 6, 7, 10];
 const OF_RECORDS: &[usize] = &[3, 5, 6, 7, 9];
 
 #[derive(Clone, Debug, Default, PartialEq, Eq)]

@@ -30,7 +30,9 @@ pub struct Sample {
 /// Makes the sample of an index; kinds with variants take them in turn.
 pub type Maker = fn(&mut Random, usize) -> Sample;
 
-pub const KINDS: [(&str, Maker); 27] = [
+/// A kind's place is part of its seed, so that a new one comes last and leaves the
+/// jobs of the others as they were.
+pub const KINDS: [(&str, Maker); 28] = [
     ("typical", valid::typical),
     ("wide", valid::wide),
     ("field-ends", valid::field_ends),
@@ -58,6 +60,7 @@ pub const KINDS: [(&str, Maker); 27] = [
     ("refused-ninth", refused::ninth),
     ("mangled", raw::mangled),
     ("raw", raw::raw),
+    ("refused-field", refused::one_field),
 ];
 
 /// The sample of a seed, a place in [`KINDS`] and an index from 0.

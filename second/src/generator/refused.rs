@@ -7,8 +7,8 @@ use super::draft::{
 };
 use super::{Due, Sample};
 use crate::job_file::{
-    field, Range, RawLoad, RawWall, LOAD_BYTES, MOST_LOADS, MOST_LOADS_A_WALL, MOST_WALLS, RANGES,
-    WALL_BYTES, WALL_FIELDS,
+    field, Range, RawLoad, RawWall, HEADER_BYTES, LOAD_BYTES, MOST_LOADS, MOST_LOADS_A_WALL,
+    MOST_WALLS, RANGES, WALL_BYTES, WALL_FIELDS,
 };
 use crate::random::Random;
 
@@ -17,6 +17,11 @@ fn refused(bytes: Vec<u8>, number: u8, place: usize) -> Sample {
         bytes,
         due: Due::Refused(number, place as u64),
     }
+}
+
+/// Refused for a field of a wall, both counted from 0 here.
+fn refused_field(draft: &Draft, wall: usize, place: usize) -> Sample {
+    refused(draft.bytes(), 5, 100 * (wall + 1) + (place + 1))
 }
 
 fn accepted(draft: &Draft) -> Sample {
@@ -39,8 +44,11 @@ fn valid(random: &mut Random, walls: usize, loads_each: usize) -> Draft {
     draft
 }
 
+/// A wall's field that [`spoil_wall`] puts out of range.
+const SPOILT: usize = field::FCU;
+
 fn spoil_wall(draft: &mut Draft, wall: usize) {
-    draft.walls[wall][field::FCU] = 61;
+    draft.walls[wall][SPOILT] = 61;
 }
 
 /// Fewer bytes than a header: the start of a valid file, or noise.
@@ -59,12 +67,13 @@ pub fn edition(random: &mut Random, index: usize) -> Sample {
     let mut draft = valid(random, 2, 1);
     let mut header = draft.header();
     header[EDITION_AT] = [0, 2, 256, 257, 65_535][index % 5];
-    match index / 5 % 5 {
+    match index / 5 % 6 {
         0 => {}
         1 => header[WALLS_AT] = [0, 65][index % 2],
         2 => header[FIRST_WALL_AT] = 13,
         3 => spoil_wall(&mut draft, 1),
-        _ => draft.loads[0][0] = 3,
+        4 => draft.loads[0][0] = 3,
+        _ => header[LENGTH_AT] -= 1,
     }
     refused(draft.bytes_with(header), 2, 0)
 }
@@ -107,82 +116,177 @@ pub fn count(random: &mut Random, index: usize) -> Sample {
     }
 }
 
-/// Each offset and the length wrong in turn, and inputs that are longer or
-/// shorter than they say; now and then with a bad wall as well.
+/// An offset wrong, or the length, or both, when it is the offset that is
+/// refused; every other one of the first two beside a bad wall. The ways of either
+/// go round by themselves, so that in time each stands beside each.
 pub fn offset(random: &mut Random, index: usize) -> Sample {
     let mut draft = valid(random, 2, 2);
-    if index % 5 == 4 {
-        spoil_wall(&mut draft, 0);
-    }
     let mut header = draft.header();
-    let turn = index % 20;
-    if turn < 12 {
-        let place = [FIRST_WALL_AT, FIRST_LOAD_AT, LENGTH_AT][turn / 4];
-        header[place] = match turn % 4 {
-            0 => header[place] + 1,
-            1 => header[place] - 1,
-            2 => 0,
-            _ => 65_535,
-        };
-        return refused(draft.bytes_with(header), 4, 0);
+    let (offset_way, length_way) = (index / 2 % OFFSET_WAYS, index / 2 % LENGTH_WAYS);
+    if matches!(index % 8, 3 | 4 | 7) {
+        spoil_wall(&mut draft, index / 8 % 2);
     }
-    let mut bytes = draft.bytes();
-    let whole = bytes.len();
-    match turn {
-        12 => bytes.truncate(whole - 1),
-        13 => bytes.push(0),
-        14 => bytes.truncate(whole - LOAD_BYTES),
-        15 => bytes.resize(whole + LOAD_BYTES, 0),
-        16 => bytes.truncate(12),
-        17 => bytes.resize(whole + 65_536, 0),
-        18 => bytes = one_count_off(&draft, WALLS_AT),
-        _ => bytes = length_fits_input_only(&draft),
+    match index % 4 {
+        0 => {
+            spoil_offset(&mut header, offset_way);
+            refused(draft.bytes_with(header), 4, 0)
+        }
+        2 => {
+            spoil_offset(&mut header, offset_way);
+            refused(with_wrong_length(&draft, header, length_way), 4, 0)
+        }
+        _ => refused(with_wrong_length(&draft, header, length_way), 10, 0),
     }
-    refused(bytes, 4, 0)
 }
 
-/// A count in range that the offsets don't fit.
-fn one_count_off(draft: &Draft, place: usize) -> Vec<u8> {
-    let mut header = draft.header();
-    header[place] += 1;
-    draft.bytes_with(header)
+/// How many ways there are of spoiling an offset. It has no factor in common with
+/// the turns of [`offset`] or with [`LENGTH_WAYS`].
+const OFFSET_WAYS: usize = 9;
+
+/// Spoils one of the two in one of them; in the last by a wall more than the
+/// loads' is for.
+fn spoil_offset(header: &mut [u16; 6], way: usize) {
+    let place = [FIRST_WALL_AT, FIRST_LOAD_AT][way % 2];
+    match way {
+        0 | 1 => header[place] += 1,
+        2 | 3 => header[place] -= 1,
+        4 | 5 => header[place] = 0,
+        6 | 7 => header[place] = u16::MAX,
+        _ => header[WALLS_AT] += 1,
+    }
 }
 
-/// The length is the input's, but not the one the counts give.
-fn length_fits_input_only(draft: &Draft) -> Vec<u8> {
-    let mut header = draft.header();
-    header[LENGTH_AT] += WALL_BYTES as u16;
+/// How many ways there are of a wrong length.
+const LENGTH_WAYS: usize = 17;
+
+/// The stated length and the input's, of which one at least is not the due one.
+fn wrong_lengths(due: usize) -> [(usize, usize); LENGTH_WAYS - 1] {
+    [
+        // Right by the counts, wrong for the input.
+        (due, due - 1),
+        // The input's own, wrong by the counts.
+        (due + WALL_BYTES, due + WALL_BYTES),
+        // Wrong by both, with an input as long as the counts give.
+        (due + 1, due),
+        (due, due + 1),
+        (due - LOAD_BYTES, due - LOAD_BYTES),
+        (due - 1, due),
+        (due, HEADER_BYTES),
+        (due + 1, due + 1),
+        (0, due),
+        // Right for the input only when that is cut to 16 bits.
+        (due, due + 65_536),
+        (due - 1, due - 1),
+        (65_535, due),
+        (due, due - LOAD_BYTES),
+        (HEADER_BYTES, HEADER_BYTES),
+        (due, due + LOAD_BYTES),
+        // Three lengths.
+        (due + 1, due - 1),
+    ]
+}
+
+/// A job with a wrong length behind a header that may be wrong besides; in the
+/// last way there is a load more than the length is for.
+fn with_wrong_length(draft: &Draft, mut header: [u16; 6], way: usize) -> Vec<u8> {
+    let due = usize::from(header[LENGTH_AT]);
+    let Some((stated, input)) = wrong_lengths(due).get(way).copied() else {
+        header[LOADS_AT] += 1;
+        return draft.bytes_with(header);
+    };
+    header[LENGTH_AT] = stated as u16;
     let mut bytes = draft.bytes_with(header);
-    bytes.resize(usize::from(header[LENGTH_AT]), 0);
+    bytes.resize(input, 0);
     bytes
 }
 
-/// A value just out of a field's range: below it, or above it.
-pub fn out_of_range(wall: &RawWall, place: usize, below: bool) -> u32 {
+/// The value next to a field's range: below it, or above it. Nothing is below a
+/// range that begins at 0; there it is what -1 becomes in 32 bits, 4294967295.
+fn next_to_range(wall: &RawWall, place: usize, below: bool) -> u32 {
     let (low, high) = ends(wall, place);
-    match (RANGES[place], below) {
-        // Between two bars, and past the last.
-        (Range::Bar, true) => 14,
-        (Range::Bar, false) => 41,
-        (_, true) => low.checked_sub(1).unwrap_or(u32::MAX),
-        (_, false) => high.saturating_add(1),
+    if below {
+        low.wrapping_sub(1)
+    } else {
+        high.saturating_add(1)
     }
 }
 
-/// Each wall field in turn out of its range, in one of three walls; with a bad
-/// load, a ninth load or a later bad wall beside it.
+/// Diameters between the least and the greatest bar that no bar has.
+const NO_BARS: [u32; 8] = [9, 11, 14, 18, 22, 24, 33, 39];
+
+/// A value out of a field's range: next to it, or of a bar also between two.
+pub fn out_of_range(random: &mut Random, wall: &RawWall, place: usize) -> u32 {
+    if RANGES[place] == Range::Bar && random.once_in(2) {
+        random.pick(&NO_BARS)
+    } else {
+        next_to_range(wall, place, random.once_in(2))
+    }
+}
+
+/// Each wall field in turn just below its range and then just above it, in each
+/// of three walls in turn, and no other fault.
+pub fn one_field(random: &mut Random, index: usize) -> Sample {
+    let mut draft = valid(random, 3, 0);
+    let (bad, place) = (index % 3, index / 2 % WALL_FIELDS);
+    let wall = &mut draft.walls[bad];
+    // A bad height leaves the water in range.
+    wall[field::WATER_HEIGHT] = 0;
+    wall[place] = next_to_range(wall, place, index.is_multiple_of(2));
+    refused_field(&draft, bad, place)
+}
+
+/// One of three walls with a field out of its range: alone, with another bad field
+/// before it or behind it, with later bad walls, or with bad loads. The first
+/// bad field of the first bad wall is the one to be named.
 pub fn wall(random: &mut Random, index: usize) -> Sample {
     let mut draft = valid(random, 3, 1);
     let bad = random.below(3);
-    let place = index / 2 % WALL_FIELDS;
-    draft.walls[bad][place] = out_of_range(&draft.walls[bad], place, index.is_multiple_of(2));
-    match index % 7 {
-        3 => draft.loads[0][0] = 0,
-        4 => draft.loads = vec![draft.loads[0]; MOST_LOADS_A_WALL + 1],
-        5 if bad < 2 => spoil_wall(&mut draft, bad + 1),
+    let wall = &mut draft.walls[bad];
+    let first = match index % 8 {
+        1 | 5 => spoil_two_fields(random, wall),
+        2 | 6 => spoil_height_and_water(random, wall, index / 8),
+        3 => {
+            *wall = [u32::MAX; WALL_FIELDS];
+            0
+        }
+        _ => {
+            let place = random.below(WALL_FIELDS);
+            spoil_field(random, wall, place)
+        }
+    };
+    match index % 8 {
+        4 => draft.loads[0][0] = 0,
+        5 => draft.loads = vec![draft.loads[0]; MOST_LOADS_A_WALL + 1],
+        6 | 7 => draft.walls[bad + 1..].fill([0; WALL_FIELDS]),
         _ => {}
     }
-    refused(draft.bytes(), 5, bad + 1)
+    refused_field(&draft, bad, first)
+}
+
+/// Spoils a field of a wall, and says which.
+fn spoil_field(random: &mut Random, wall: &mut RawWall, place: usize) -> usize {
+    wall[place] = out_of_range(random, wall, place);
+    place
+}
+
+/// Spoils two fields of a wall, in either order, and says which comes first.
+fn spoil_two_fields(random: &mut Random, wall: &mut RawWall) -> usize {
+    let one = random.below(WALL_FIELDS);
+    let other = (one + 1 + random.below(WALL_FIELDS - 1)) % WALL_FIELDS;
+    spoil_field(random, wall, one).min(spoil_field(random, wall, other))
+}
+
+/// Spoils a height of a wall, says which, and puts water to the crest that it
+/// makes or above it. It is the height that is bad first, whatever the water.
+fn spoil_height_and_water(random: &mut Random, wall: &mut RawWall, way: usize) -> usize {
+    let height = [field::STEM_HEIGHT, field::BASE_THICKNESS][way % 2];
+    spoil_field(random, wall, height);
+    wall[field::WATER_HEIGHT] = match random.below(3) {
+        0 => crest(wall),
+        1 => crest(wall).saturating_add(1),
+        _ => u32::MAX,
+    };
+    height
 }
 
 /// How many ways there are of spoiling a load.
@@ -267,7 +371,7 @@ pub fn ninth(random: &mut Random, index: usize) -> Sample {
         }
         7 => {
             spoil_wall(&mut draft, 1);
-            refused(draft.bytes(), 5, 2)
+            refused_field(&draft, 1, SPOILT)
         }
         _ => {
             draft.loads.pop();
