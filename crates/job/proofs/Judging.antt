@@ -9,10 +9,10 @@ use borrow.Author.Tests.{not-true, not-false}
 use lib.Dec.{T, ltb, eqb}
 use lib.ListN.{length}
 use Rattle.rules.specs.declared.Answer.{Answer}
-use Rattle.rules.specs.declared.Answer.the-variants.{Worked, TooShort, WrongEdition, CountOutOfRange, WrongOffsetOrLength}
+use Rattle.rules.specs.declared.Answer.the-variants.{Worked, TooShort, WrongEdition, CountOutOfRange, WrongOffset, WrongLength}
 use Rattle.rules.specs.JobFile.{File, Wall, Load, Entry, baseLength, wallHeight, reach, loadFits, headerBytes, thisEdition, edition, wallCount, mostWalls, recordsFrom, walls, entries, wallOf, loadsOn}
-use Rattle.rules.specs.Answered.{isWorked, refusedIf, _orElse_, countsFit, offsetsAndLengthFit, wallAnswer, firstBadWall, entryFits, isOneMore, firstBadLoad, firstRefusal}
-use Rattle.rules.proofs.AcceptedFile.{walls-counted}
+use Rattle.rules.specs.Answered.{isWorked, refusedIf, _orElse_, countsFit, offsetsFit, lengthFits, wallAnswer, firstBadWall, entryFits, isOneMore, firstBadLoad, firstRefusal}
+use Rattle.rules.proofs.AcceptedFile.{first-worked, passes, walls-counted}
 use Rattle.job.specs.Lengths.{lengthsOf}
 use Rattle.rules.specs.Beyond.{loadAnswer}
 use Rattle.job.specs.Refusals.{headerAnswer}
@@ -43,19 +43,15 @@ grouped a b c = go (isWorked a) refl
 pub in-order : (file : File)
     → firstRefusal file ≡ (headerAnswer file orElse firstBadWall 1 (walls file) orElse firstBadLoad (walls file) [] 1 (entries file))
 unfolding firstRefusal
-in-order file = rw (grouped, grouped, grouped)
+in-order file = rw (grouped, grouped, grouped, grouped)
 
 -- a header that is passed has no more walls than it may
-counts-passed : (short other fit wrong : Bool)
-    → T (isWorked (refusedIf short TooShort orElse refusedIf other WrongEdition orElse refusedIf (not fit) CountOutOfRange orElse refusedIf wrong WrongOffsetOrLength)) → T fit
-counts-passed true other fit wrong t = absurd t
-counts-passed false true fit wrong t = absurd t
-counts-passed false false true wrong t = tt
-counts-passed false false false wrong t = absurd t
-
 pub few-walls : (file : File) → T (isWorked (headerAnswer file)) → wallCount file ≤ mostWalls
 few-walls file t =
-    walls-counted file (counts-passed (ltb (length file) headerBytes) (not (eqb (edition file) thisEdition)) (countsFit file) (not (offsetsAndLengthFit file)) t) .1
+    let past1 = first-worked (refusedIf (ltb (length file) headerBytes) TooShort) _ t .1 in
+    let past2 = first-worked (refusedIf (not (eqb (edition file) thisEdition)) WrongEdition) _ past1 .1 in
+    let past3 = first-worked (refusedIf (not (countsFit file)) CountOutOfRange) _ past2 .0 in
+    walls-counted file (passes (countsFit file) CountOutOfRange refl past3) .1
 
 -- ---- any records
 

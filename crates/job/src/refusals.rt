@@ -14,7 +14,7 @@ ghost use mathlib.Core.Path.{_≡_};
 ghost use mathlib.Core.List.{[]};
 ghost use Prim.Native.Nat.{_≤_};
 ghost use Rattle.rules.specs.JobFile.{wallCount, mostWalls, walls, entries};
-ghost use Rattle.rules.specs.Answered.{countsFit, offsetsAndLengthFit, firstBadWall, entryFits, firstBadLoad};
+ghost use Rattle.rules.specs.Answered.{countsFit, offsetsFit, lengthFits, firstBadWall, entryFits, firstBadLoad};
 ghost use Rattle.rules.specs.WrittenFile.{takingAnswer};
 ghost use Rattle.job.specs.Refusals.{headerAnswer};
 
@@ -27,32 +27,38 @@ fn counts_fit(file: &[u8]) -> bool
     (1 <= walls) & (walls <= MOST_WALLS) & (loads <= MOST_LOADS)
 }
 
-// 4: are both offsets and the length those that the counts give, and is the length the input's?
-fn offsets_and_length_fit(file: &[u8]) -> bool
-    ensures { λ r. ⌜ r ≡ offsetsAndLengthFit (now (file .entry)) ⌝ }
+// 4: are both offsets those that the counts give?
+fn offsets_fit(file: &[u8]) -> bool
+    ensures { λ r. ⌜ r ≡ offsetsFit (now (file .entry)) ⌝ }
 {
     let first_wall = header::first_wall_offset(file) as usize;
     let first_load = header::first_load_offset(file) as usize;
     let entries = header::entries_at(file);
-    let length = header::whole_length(file) as usize;
-    let end = entries + ENTRY_BYTES * (header::load_count(file) as usize);
-    (first_wall == HEADER_BYTES)
-        & (first_load == entries)
-        & (length == end)
-        & (length == file.len())
+    (first_wall == HEADER_BYTES) & (first_load == entries)
 }
 
-// 1 to 4: the tests of the header.
+// 10: is the length the one that the counts give, and the input's?
+fn length_fits(file: &[u8]) -> bool
+    ensures { λ r. ⌜ r ≡ lengthFits (now (file .entry)) ⌝ }
+{
+    let length = header::whole_length(file) as usize;
+    let end = header::entries_at(file) + ENTRY_BYTES * (header::load_count(file) as usize);
+    (length == end) & (length == file.len())
+}
+
+// 1 to 4, and 10 behind them: the tests of the header.
 pub fn header_answer(file: &[u8]) -> Answer
     ensures { λ r. ⌜ r ≡ headerAnswer (now (file .entry)) ⌝ }
 {
-    let length = reply::refused_if(file.len() < HEADER_BYTES, Answer::TooShort);
+    let short = reply::refused_if(file.len() < HEADER_BYTES, Answer::TooShort);
     let edition = reply::refused_if(header::edition(file) != EDITION, Answer::WrongEdition);
     let counts = reply::refused_if(!counts_fit(file), Answer::CountOutOfRange);
-    let offsets = reply::refused_if(!offsets_and_length_fit(file), Answer::WrongOffsetOrLength);
+    let offsets = reply::refused_if(!offsets_fit(file), Answer::WrongOffset);
+    let length = reply::refused_if(!length_fits(file), Answer::WrongLength);
+    let layout = reply::or_else(offsets, length);
     reply::or_else(
-        length,
-        reply::or_else(edition, reply::or_else(counts, offsets)),
+        short,
+        reply::or_else(edition, reply::or_else(counts, layout)),
     )
 }
 
@@ -60,9 +66,9 @@ pub fn header_answer(file: &[u8]) -> Answer
 pub fn first_bad_wall(file: &[u8]) -> Answer
     ensures { λ r. ⌜ r ≡ firstBadWall 1 (walls (now (file .entry))) ⌝ }
 {
-    let count = crate::wall_count(file) as u32;
+    let count = crate::wall_count(file);
     for i in 0..count {
-        let answer = record::wall_answer(crate::wall_at(file, i), i + 1);
+        let answer = record::wall_answer(crate::wall_at(file, i as u32), i + 1);
         if !reply::is_worked(answer) {
             return answer;
         }
@@ -106,7 +112,7 @@ pub fn first_bad_load(file: &[u8]) -> Answer
     Answer::Worked
 }
 
-// Document 02, #101: 1 to 7, and 8 last, where there is room for so many numbers of walls and of loads.
+// Document 02, #101: the refusals of the file, and 8 last, where there is room for so many numbers of walls and of loads.
 pub fn taking_answer(file: &[u8], walls: usize, loads: usize) -> Answer
     ensures { λ r. ⌜ r ≡ takingAnswer (now (file .entry)) walls loads ⌝ }
 {

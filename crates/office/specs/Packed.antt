@@ -47,7 +47,7 @@ pub record CalculatesPacked (file : File) (before : List ℤ) (r : ℕ) (after :
 abbrev pub figureRoom : ℕ
 figureRoom = 5
 
--- what is drawn where room for so many figures is lent: refused are 1 to 7, then 18, and 8 last
+-- what is drawn where room for so many figures is lent: the refusals of the file, then 18, and 8 last
 unfoldable pub drawingTo : File → ℕ → ℕ → Drawn
 drawingTo file n room =
     let asked = drawingFor file n in

@@ -213,27 +213,28 @@ fn is_within(top: u64, range: Range, n: u32) -> bool
 }
 
 // The number of the first field out of range, in field order; 0 where there is none.
-fn first_bad_field(wall: Wall) -> usize
+fn first_bad_field(wall: Wall) -> u16
     ensures { λ r. ⌜ r ≡ firstBadField wall ⌝ }
 {
     let ranges = RANGES;
     let top = wall_height(wall);
     for i in 0..FIELDS {
         if !is_within(top, ranges[i], wall[i]) {
-            return i + 1;
+            return i as u16 + 1;
         }
     }
     0
 }
 
-// 5: a wall with a field out of range is refused, at the number that it has.
-pub fn wall_answer(wall: Wall, number: u32) -> Answer
+// 5: a wall with a field out of range is refused, at the number that it has and at the first such field.
+pub fn wall_answer(wall: Wall, number: u16) -> Answer
     ensures { λ r. ⌜ r ≡ wallAnswer number wall ⌝ }
 {
-    if first_bad_field(wall) == 0 {
+    let field = first_bad_field(wall);
+    if field == 0 {
         Answer::Worked
     } else {
-        Answer::WallOutOfRange(number)
+        Answer::WallOutOfRange(number, field)
     }
 }
 

@@ -1,9 +1,10 @@
 // Document 01, "What is answered": what an answer says, its number and its place; and refusals in the order of their tests.
 use rules::Answer;
 ghost use mathlib.Core.Path.{_≡_};
+ghost use Rattle.rules.specs.declared.Answer.the-variants.{WallOutOfRange};
 ghost use Rattle.rules.specs.Answered.{number, place, isWorked, refusedIf, _orElse_};
 
-// The number that document 01's table gives a refusal, and 0 where there is none.
+// The number that the table of refusals gives, and 0 where there is none.
 pub fn number_of(answer: Answer) -> u32
     ensures { λ r. ⌜ r ≡ number answer ⌝ }
 {
@@ -12,8 +13,9 @@ pub fn number_of(answer: Answer) -> u32
         Answer::TooShort => 1,
         Answer::WrongEdition => 2,
         Answer::CountOutOfRange => 3,
-        Answer::WrongOffsetOrLength => 4,
-        Answer::WallOutOfRange(_) => 5,
+        Answer::WrongOffset => 4,
+        Answer::WrongLength => 10,
+        Answer::WallOutOfRange(_, _) => 5,
         Answer::LoadOutOfRange(_) => 6,
         Answer::NinthLoad(_) => 7,
         Answer::BufferTooShort => 8,
@@ -22,7 +24,14 @@ pub fn number_of(answer: Answer) -> u32
     }
 }
 
-// Its place: the number of a wall or a load, or 0.
+// The place of a wall's field: the wall's number in hundreds, and behind it the field's.
+fn field_place(wall: u16, field: u16) -> u32
+    ensures { λ r. ⌜ r ≡ place (WallOutOfRange wall field) ⌝ }
+{
+    wall as u32 * 100 + field as u32
+}
+
+// Its place: that of a wall's field, the number of a load or of a wall, or 0.
 pub fn place_of(answer: Answer) -> u32
     ensures { λ r. ⌜ r ≡ place answer ⌝ }
 {
@@ -31,8 +40,9 @@ pub fn place_of(answer: Answer) -> u32
         Answer::TooShort => 0,
         Answer::WrongEdition => 0,
         Answer::CountOutOfRange => 0,
-        Answer::WrongOffsetOrLength => 0,
-        Answer::WallOutOfRange(wall) => wall,
+        Answer::WrongOffset => 0,
+        Answer::WrongLength => 0,
+        Answer::WallOutOfRange(wall, field) => field_place(wall, field),
         Answer::LoadOutOfRange(load) => load,
         Answer::NinthLoad(load) => load,
         Answer::BufferTooShort => 0,

@@ -5,10 +5,10 @@ use mathlib.Core.Bool.{Bool, true, false, _&&_, _||_, cond, and-eq-true-iff}
 use mathlib.Core.List.{List, [], _∷_}
 use Prim.Native.Nat.{ℕ, zero, suc, _+_, _-_, _≤_, _<_}
 use native.Mathlib.Omega.{arith}
-use lib.Dec.{T, leb, ltb, eqb, leb→le, ltb→lt, eqb→eq}
+use lib.Dec.{T, leb, ltb, eqb, leb→le, le→leb, ltb→lt, eqb→eq}
 use lib.Ieee.Bits.{is-true}
 use lib.ListN.{length, getD}
-use borrow.Author.Tests.{leb-true}
+use borrow.Author.Tests.{leb-true, le-leb}
 use Rattle.rules.specs.declared.Range.{Range}
 use Rattle.rules.specs.declared.Range.the-variants.{Between, UpToTop, ABar}
 use Rattle.rules.specs.JobFile.{Wall, Load, wallFields, bars, among, within, baseLength, wallHeight, excavation, surcharge, field, ranges, firstOutside, firstBadField, wallFits, direction, position, deadLoad, liveLoad, greatestLoad, reach, loadFits}
@@ -70,11 +70,17 @@ InRange wall (Between low high) n = Lies low high n
 InRange wall UpToTop n = n ≤ wallHeight wall
 InRange wall ABar n = T (among n bars)
 
-in-range : (wall : Wall) (range : Range) (n : ℕ) → T (within wall range n) → InRange wall range n
+pub in-range : (wall : Wall) (range : Range) (n : ℕ) → T (within wall range n) → InRange wall range n
 unfolding within
 in-range wall (Between low high) n t = omega (arith, leb-true, simp and-eq-true-iff at (is-true (leb low n && leb n high) t))
 in-range wall UpToTop n t = leb→le n (wallHeight wall) t
 in-range wall ABar n t = t
+
+pub within-range : (wall : Wall) (range : Range) (n : ℕ) → InRange wall range n → T (within wall range n)
+unfolding within
+within-range wall (Between low high) n lies = rw (le-leb low n (lies .0), le-leb n high (lies .1)) tt
+within-range wall UpToTop n below = le→leb n (wallHeight wall) below
+within-range wall ABar n t = t
 
 -- the range of a field, by its number, and what is known of the field
 abbrev pub rangeOf : ℕ → Range

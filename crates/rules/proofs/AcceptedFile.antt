@@ -12,9 +12,9 @@ use borrow.Author.Tests.{eqb-true, leb-true}
 use Rattle.whole.proofs.Lists.{of-either}
 use Rattle.rules.proofs.Accepted.{both}
 use Rattle.rules.specs.declared.Answer.{Answer}
-use Rattle.rules.specs.declared.Answer.the-variants.{TooShort, WrongEdition, CountOutOfRange, WrongOffsetOrLength, WallOutOfRange, LoadOutOfRange, NinthLoad}
-use Rattle.rules.specs.JobFile.{File, Wall, Load, Entry, thisEdition, edition, wallCount, loadCount, wholeLength, headerBytes, entryBytes, mostWalls, mostLoads, mostLoadsOnWall, entriesAt, wallAt, entryAt, recordsFrom, walls, entries, wallOf, loadOf, loadsOn, wallFits, loadFits}
-use Rattle.rules.specs.Answered.{isWorked, refusedIf, _orElse_, countsFit, offsetsAndLengthFit, wallAnswer, firstBadWall, isThere, numbered, entryFits, isOneMore, firstBadLoad, firstRefusal, accepted}
+use Rattle.rules.specs.declared.Answer.the-variants.{TooShort, WrongEdition, CountOutOfRange, WrongOffset, WrongLength, WallOutOfRange, LoadOutOfRange, NinthLoad}
+use Rattle.rules.specs.JobFile.{File, Wall, Load, Entry, thisEdition, edition, wallCount, loadCount, wholeLength, headerBytes, entryBytes, mostWalls, mostLoads, mostLoadsOnWall, entriesAt, wallAt, entryAt, recordsFrom, walls, entries, wallOf, loadOf, loadsOn, firstBadField, wallFits, loadFits}
+use Rattle.rules.specs.Answered.{isWorked, refusedIf, _orElse_, countsFit, offsetsFit, lengthFits, wallAnswer, firstBadWall, isThere, numbered, entryFits, isOneMore, firstBadLoad, firstRefusal, accepted}
 
 -- ---- records in file order, and the loads of a wall among them
 
@@ -90,11 +90,12 @@ passes false refusal e t = absurd (rw e at t)
 step : (test : Bool) (refusal rest : Answer) → isWorked refusal ≡ false → T (isWorked (refusedIf (not test) refusal orElse rest)) → T test × T (isWorked rest)
 step test refusal rest e t = let h = first-worked (refusedIf (not test) refusal) rest t in (passes test refusal e (h .0), h .1)
 
--- what tests 2 to 7 leave; test 1 asks for less than test 4
+-- what the tests from 2 on leave; test 1 asks for less than that of the length
 record Passed (file : File) : Type 0 where
   one : T (eqb (edition file) thisEdition)
   counts : T (countsFit file)
-  offsets : T (offsetsAndLengthFit file)
+  offsets : T (offsetsFit file)
+  ended : T (lengthFits file)
   noBadWall : T (isWorked (firstBadWall 1 (walls file)))
   noBadLoad : T (isWorked (firstBadLoad (walls file) [] 1 (entries file)))
 
@@ -104,9 +105,10 @@ passed file t =
     let past1 = first-worked (refusedIf (ltb (length file) headerBytes) TooShort) _ t .1 in
     let past2 = step (eqb (edition file) thisEdition) WrongEdition _ refl past1 in
     let past3 = step (countsFit file) CountOutOfRange _ refl (past2 .1) in
-    let past4 = step (offsetsAndLengthFit file) WrongOffsetOrLength _ refl (past3 .1) in
-    let past5 = first-worked (firstBadWall 1 (walls file)) _ (past4 .1) in
-    record { one = past2 .0; counts = past3 .0; offsets = past4 .0; noBadWall = past5 .0; noBadLoad = past5 .1 }
+    let past4 = step (offsetsFit file) WrongOffset _ refl (past3 .1) in
+    let past10 = step (lengthFits file) WrongLength _ refl (past4 .1) in
+    let past5 = first-worked (firstBadWall 1 (walls file)) _ (past10 .1) in
+    record { one = past2 .0; counts = past3 .0; offsets = past4 .0; ended = past10 .0; noBadWall = past5 .0; noBadLoad = past5 .1 }
 
 -- ---- the header
 
@@ -118,9 +120,13 @@ edition-is file t = eqb→eq (edition file) thisEdition (passed file t .one)
 pub counts-fit : (file : File) → T (accepted file) → T (countsFit file)
 counts-fit file t = passed file t .counts
 
--- its offsets and its length are those that the counts give
-pub offsets-fit : (file : File) → T (accepted file) → T (offsetsAndLengthFit file)
+-- its offsets are those that the counts give
+pub offsets-fit : (file : File) → T (accepted file) → T (offsetsFit file)
 offsets-fit file t = passed file t .offsets
+
+-- and so is its length, which is the input's
+pub length-fits : (file : File) → T (accepted file) → T (lengthFits file)
+length-fits file t = passed file t .ended
 
 -- there is at least one wall, and there are no more than a file may have
 pub walls-counted : (file : File) → T (countsFit file) → (1 ≤ wallCount file) × (wallCount file ≤ mostWalls)
@@ -139,20 +145,19 @@ pub load-count : (file : File) → T (accepted file) → loadCount file ≤ most
 load-count file t = loads-counted file (counts-fit file t)
 
 -- the file is as long as its header says, and ends where its last load does
-pub ends : (file : File) → T (offsetsAndLengthFit file)
-    → (wholeLength file ≡ length file) × (wholeLength file ≡ entriesAt file + entryBytes * loadCount file)
-unfolding offsetsAndLengthFit
-ends file t = omega (arith, eqb-true, simp and-eq-true-iff at (is-true (offsetsAndLengthFit file) t))
+pub ends : (file : File) → T (lengthFits file) → (wholeLength file ≡ length file) × (wholeLength file ≡ entriesAt file + entryBytes * loadCount file)
+unfolding lengthFits
+ends file t = omega (arith, eqb-true, simp and-eq-true-iff at (is-true (lengthFits file) t))
 
 pub length-is : (file : File) → T (accepted file) → length file ≡ entriesAt file + entryBytes * loadCount file
-length-is file t = let h = ends file (offsets-fit file t) in sym (h .0) ∙ h .1
+length-is file t = let h = ends file (length-fits file t) in sym (h .0) ∙ h .1
 
 -- ---- the walls
 
 -- a wall that is passed fits, and no later one is refused
 pub past-wall : (n : ℕ) (w : Wall) (ws : List Wall) → T (isWorked (firstBadWall n (w ∷ ws))) → T (wallFits w) × T (isWorked (firstBadWall (suc n) ws))
 unfolding wallAnswer firstBadWall
-past-wall n w ws t = step (wallFits w) (WallOutOfRange n) (firstBadWall (suc n) ws) refl t
+past-wall n w ws t = step (wallFits w) (WallOutOfRange n (firstBadField w)) (firstBadWall (suc n) ws) refl t
 
 -- where no wall of a list is refused, each fits
 each-wall : (n : ℕ) (ws : List Wall) → T (isWorked (firstBadWall n ws)) → (i : ℕ) → i < length ws → T (wallFits (getD ws i []))

@@ -11,8 +11,8 @@ use borrow.Author.Tests.{le-ltb, lt-ltb, lt-leb, eq-eqb}
 use Rattle.whole.proofs.Lists.{All, all-joined, all-apart, all-of}
 use Rattle.rules.specs.declared.Answer.{Answer}
 use Rattle.rules.specs.declared.Answer.the-variants.{Worked, WallOutOfRange, LoadOutOfRange}
-use Rattle.rules.specs.JobFile.{File, Wall, Load, Entry, headerBytes, thisEdition, edition, wallCount, mostLoadsOnWall, wallAt, walls, entries, loadsOn, wallFits, direction, position, deadLoad, liveLoad, loadFits}
-use Rattle.rules.specs.Answered.{isWorked, refusedIf, _orElse_, countsFit, offsetsAndLengthFit, wallAnswer, firstBadWall, entryFits, isOneMore, firstBadLoad, firstRefusal, accepted}
+use Rattle.rules.specs.JobFile.{File, Wall, Load, Entry, headerBytes, thisEdition, edition, wallCount, mostLoadsOnWall, wallAt, walls, entries, loadsOn, firstBadField, wallFits, direction, position, deadLoad, liveLoad, loadFits}
+use Rattle.rules.specs.Answered.{isWorked, refusedIf, _orElse_, countsFit, offsetsFit, lengthFits, wallAnswer, firstBadWall, entryFits, isOneMore, firstBadLoad, firstRefusal, accepted}
 use Rattle.rules.specs.Beyond.{firstUnfit, alone, examined, fits}
 use Rattle.rules.proofs.AcceptedFile.{loads-join, first-worked, walls-fit, past-wall, past-load, loads-fit, few-from, few-loads}
 
@@ -62,7 +62,7 @@ module _ (wall : Wall) where
   examined-is loads few = rw (never-ninth [] 0 loads (omega arith)) (go (wallFits wall) (refusedLoad (firstUnfit wall 1 loads)))
     where
       go : (fits : Bool) (rest : Answer)
-          → ((refusedIf (not fits) (WallOutOfRange 1) orElse Worked) orElse rest) ≡ (refusedIf (not fits) (WallOutOfRange 1) orElse rest)
+          → ((refusedIf (not fits) (WallOutOfRange 1 (firstBadField wall)) orElse Worked) orElse rest) ≡ (refusedIf (not fits) (WallOutOfRange 1 (firstBadField wall)) orElse rest)
       go true rest = refl
       go false rest = refl
 
@@ -136,11 +136,11 @@ module _ (wall : Wall) where
 
 -- a file with just one wall and its loads is answered as they are by themselves, where its header passes
 pub as-a-file : (file : File) (wall : Wall) (loads : List Load)
-    → headerBytes ≤ length file → edition file ≡ thisEdition → T (countsFit file) → T (offsetsAndLengthFit file)
+    → headerBytes ≤ length file → edition file ≡ thisEdition → T (countsFit file) → T (offsetsFit file) → T (lengthFits file)
     → walls file ≡ wall ∷ [] → entries file ≡ map alone loads → firstRefusal file ≡ examined wall loads
 unfolding firstRefusal examined
-as-a-file file wall loads long one counts offsets its these =
-    rw (le-ltb (length file) headerBytes, eq-eqb (edition file) thisEdition, is-true (countsFit file), is-true (offsetsAndLengthFit file), its, these)
+as-a-file file wall loads long one counts offsets ended its these =
+    rw (le-ltb (length file) headerBytes, eq-eqb (edition file) thisEdition, is-true (countsFit file), is-true (offsetsFit file), is-true (lengthFits file), its, these)
 
 -- a wall of an accepted file fits with its loads
 pub wall-of-file : (file : File) → T (accepted file) → (i : ℕ) → i < wallCount file → T (fits (wallAt file i) (loadsOn (suc i) (entries file)))

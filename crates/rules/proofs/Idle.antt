@@ -15,7 +15,7 @@ use Rattle.whole.specs.Sum.{sumOf}
 use Rattle.rules.specs.declared.Answer.{Answer}
 use Rattle.rules.specs.declared.Answer.the-variants.{Worked}
 use Rattle.rules.specs.JobFile.{File, Wall, wallCount, u16At, u32At, u32sAt, entriesAt, wallAt, recordsFrom, walls, entries, loadsOn, baseLength, wallHeight, among, within, firstOutside, firstBadField, wallFits}
-use Rattle.rules.specs.Answered.{accepted, countsFit, offsetsAndLengthFit, wallAnswer, firstBadWall, firstBadLoad, firstRefusal}
+use Rattle.rules.specs.Answered.{accepted, countsFit, offsetsFit, lengthFits, wallAnswer, firstBadWall, firstBadLoad, firstRefusal}
 use Rattle.rules.specs.Forces.{saturatedHeight, stemWeight, baseWeight, saturatedWeight, moistWeight, surchargeWeight, weightRows, pushRows, loadTable, table, columnSum, totals, service}
 use Rattle.rules.specs.SheetLine.{lineNumbers, workedWall, numbersBy, line, linesFrom, sheet, joined, answerTo, bufferAfter, Calculates, digit, digits, decimal, signedDecimal, hexDigits, lineRest, lineText, printed}
 use Rattle.rules.specs.Beyond.{sheetRoom, onto, Prints}
@@ -71,7 +71,7 @@ record WorkedOut : Type 0 where
   case-A-bytes : T (areBytes caseA)
 
 worked-out : WorkedOut
-unfolding twoWalls u16At u32At u32sAt entriesAt wallAt recordsFrom walls entries loadsOn baseLength wallHeight among within firstOutside firstBadField wallFits countsFit offsetsAndLengthFit wallAnswer firstBadWall firstBadLoad firstRefusal saturatedHeight stemWeight baseWeight saturatedWeight moistWeight surchargeWeight weightRows pushRows loadTable table columnSum totals service workedWall numbersBy line linesFrom sheet joined answerTo bufferAfter digits decimal signedDecimal hexDigits lineRest lineText printed roundedNearest sumOf
+unfolding twoWalls u16At u32At u32sAt entriesAt wallAt recordsFrom walls entries loadsOn baseLength wallHeight among within firstOutside firstBadField wallFits countsFit offsetsFit lengthFits wallAnswer firstBadWall firstBadLoad firstRefusal saturatedHeight stemWeight baseWeight saturatedWeight moistWeight surchargeWeight weightRows pushRows loadTable table columnSum totals service workedWall numbersBy line linesFrom sheet joined answerTo bufferAfter digits decimal signedDecimal hexDigits lineRest lineText printed roundedNearest sumOf
 worked-out =
     record { answered = refl; passes = tt; bytes = tt; two = refl; one = refl; low = refl; high = refl; case-A = refl; low-printed = refl; case-A-printed = refl; case-A-bytes = tt }
 

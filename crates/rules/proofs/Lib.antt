@@ -2,6 +2,7 @@ pub mod Absent
 pub mod Accepted
 pub mod AcceptedFile
 pub mod Additive
+pub mod AsBefore
 pub mod Bits
 pub mod Bytes
 pub mod Carries
@@ -16,6 +17,7 @@ pub mod Lines
 pub mod LoadsOfWalls
 pub mod LongInput
 pub mod Moments
+pub mod Named
 pub mod NoBlock
 pub mod Pieces
 pub mod Points

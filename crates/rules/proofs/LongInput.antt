@@ -10,47 +10,54 @@ use lib.Seq.{length-take-le, take-all, getD-take}
 use borrow.Author.Tests.{leb-true, leb-false, le-ltb, eq-eqb}
 use Rattle.whole.proofs.Lists.{All, all-at}
 use Rattle.rules.specs.declared.Answer.{Answer}
-use Rattle.rules.specs.declared.Answer.the-variants.{WrongEdition, CountOutOfRange, WrongOffsetOrLength}
+use Rattle.rules.specs.declared.Answer.the-variants.{WrongEdition, CountOutOfRange, WrongOffset, WrongLength}
 use Rattle.rules.specs.JobFile.{File, u16At, headerBytes, thisEdition, edition, wholeLength, entriesAt}
-use Rattle.rules.specs.Answered.{isWorked, refusedIf, _orElse_, countsFit, offsetsAndLengthFit, firstRefusal, accepted}
+use Rattle.rules.specs.Answered.{isWorked, refusedIf, _orElse_, countsFit, offsetsFit, lengthFits, firstRefusal, accepted}
 use Rattle.rules.specs.SheetLine.{printed}
 use Rattle.rules.specs.Drawing.{answerToDrawing, drawingFor}
 use Rattle.rules.specs.WrittenFile.{fileRoom}
-use Rattle.rules.proofs.AcceptedFile.{offsets-fit, counts-fit, walls-counted, loads-counted, ends}
+use Rattle.rules.proofs.AcceptedFile.{length-fits, counts-fit, walls-counted, loads-counted, ends}
 
--- ---- files that test 4 doesn't pass
+-- ---- files whose length is wrong
 
--- what they are answered, by whether the edition is right and whether the counts are
-abbrev byHeader : Bool → Bool → Answer
-byHeader one counted = refusedIf (not one) WrongEdition orElse refusedIf (not counted) CountOutOfRange orElse WrongOffsetOrLength
+-- what they are answered, by whether the edition is right, whether the counts are, and whether the offsets are
+abbrev byHeader : Bool → Bool → Bool → Answer
+byHeader one counted placed =
+    refusedIf (not one) WrongEdition orElse refusedIf (not counted) CountOutOfRange orElse refusedIf (not placed) WrongOffset orElse WrongLength
 
-refused-by-header : (file : File) → headerBytes ≤ length file → (T (offsetsAndLengthFit file) → ⊥)
-    → firstRefusal file ≡ byHeader (eqb (edition file) thisEdition) (countsFit file)
+refused-by-header : (file : File) → headerBytes ≤ length file → (T (lengthFits file) → ⊥)
+    → firstRefusal file ≡ byHeader (eqb (edition file) thisEdition) (countsFit file) (offsetsFit file)
 unfolding firstRefusal
-refused-by-header file long unfit =
-    rw (le-ltb (length file) headerBytes, is-false (offsetsAndLengthFit file) (not-T (offsetsAndLengthFit file) unfit))
+refused-by-header file long unfit = rw (le-ltb (length file) headerBytes, is-false (lengthFits file) (not-T (lengthFits file) unfit))
 
 -- and none of them is worked
-no-work : (one counted : Bool) → isWorked (byHeader one counted) ≡ false
-no-work true true = refl
-no-work true false = refl
-no-work false counted = refl
+no-work : (one counted placed : Bool) → isWorked (byHeader one counted placed) ≡ false
+no-work true true true = refl
+no-work true true false = refl
+no-work true false placed = refl
+no-work false counted placed = refl
 
 -- ---- longer than any job
 
 -- counts that are right give no greater length
-too-long : (file : File) → fileRoom < length file → T (countsFit file) → T (offsetsAndLengthFit file) → ⊥
+too-long : (file : File) → fileRoom < length file → T (countsFit file) → T (lengthFits file) → ⊥
 unfolding entriesAt
-too-long file longer counts offsets = omega (arith, walls-counted file counts, loads-counted file counts, ends file offsets)
+too-long file longer counts ended = omega (arith, walls-counted file counts, loads-counted file counts, ends file ended)
 
 -- a longer input is not accepted
 pub not-accepted : (file : File) → fileRoom < length file → T (accepted file) → ⊥
-not-accepted file longer t = too-long file longer (counts-fit file t) (offsets-fit file t)
+not-accepted file longer t = too-long file longer (counts-fit file t) (length-fits file t)
 
--- and where its edition and its counts are right, it is refused for its length
-pub refused-for-length : (file : File) → fileRoom < length file → edition file ≡ thisEdition → T (countsFit file) → firstRefusal file ≡ WrongOffsetOrLength
-refused-for-length file longer one counts =
-    rw (refused-by-header file (omega arith) (too-long file longer counts), eq-eqb (edition file) thisEdition, is-true (countsFit file))
+-- and where its edition, its counts and its offsets are right, it is refused for its length
+pub refused-for-length : (file : File) → fileRoom < length file → edition file ≡ thisEdition → T (countsFit file) → T (offsetsFit file)
+    → firstRefusal file ≡ WrongLength
+refused-for-length file longer one counts offsets =
+    rw (
+      refused-by-header file (omega arith) (too-long file longer counts),
+      eq-eqb (edition file) thisEdition,
+      is-true (countsFit file),
+      is-true (offsetsFit file),
+    )
 
 -- ---- what a program reads of its input: no fewer bytes than this, if there are as many
 
@@ -67,8 +74,8 @@ u16-small file bytes at = omega (arith, all-at IsByte 0 (omega arith) file bytes
 
 -- so that a file of as many bytes is longer than its header says
 long-by-header : (file : File) → leastRead ≤ length file → wholeLength file < leastRead
-    → firstRefusal file ≡ byHeader (eqb (edition file) thisEdition) (countsFit file)
-long-by-header file long small = refused-by-header file (omega arith) (λ offsets. omega (arith, ends file offsets))
+    → firstRefusal file ≡ byHeader (eqb (edition file) thisEdition) (countsFit file) (offsetsFit file)
+long-by-header file long small = refused-by-header file (omega arith) (λ ended. omega (arith, ends file ended))
 
 module _ (read : ℕ) (enough : leastRead ≤ read) where
   -- the header is read whole
@@ -80,10 +87,14 @@ module _ (read : ℕ) (enough : leastRead ≤ read) where
   unfolding countsFit
   counts-read file = rw (u16-read file 2 (omega arith), u16-read file 6 (omega arith))
 
+  offsets-read : (file : File) → offsetsFit (take read file) ≡ offsetsFit file
+  unfolding offsetsFit entriesAt
+  offsets-read file = rw (u16-read file 2 (omega arith), u16-read file 4 (omega arith), u16-read file 8 (omega arith))
+
   -- an input that isn't read to its end is refused, and so is what is read of it, for the same reason
   module _ (file : File) (bytes : All IsByte file) (long : read ≤ length file) where
     pub long-refused : isWorked (firstRefusal file) ≡ false
-    long-refused = rw (long-by-header file (omega arith) (u16-small file bytes 10)) (no-work (eqb (edition file) thisEdition) (countsFit file))
+    long-refused = rw (long-by-header file (omega arith) (u16-small file bytes 10)) (no-work (eqb (edition file) thisEdition) (countsFit file) (offsetsFit file))
 
     pub long-alike : firstRefusal (take read file) ≡ firstRefusal file
     long-alike =
@@ -91,7 +102,13 @@ module _ (read : ℕ) (enough : leastRead ≤ read) where
         let its : length start ≡ read = length-take-le read file long in
         let small = u16-small file bytes 10 in
         let same : wholeLength start ≡ wholeLength file = u16-read file 10 (omega arith) in
-        rw (long-by-header start (omega arith) (omega arith), long-by-header file (omega arith) small, u16-read file 0 (omega arith), counts-read file)
+        rw (
+          long-by-header start (omega arith) (omega arith),
+          long-by-header file (omega arith) small,
+          u16-read file 0 (omega arith),
+          counts-read file,
+          offsets-read file,
+        )
 
   -- what files that are refused alike have alike, an input and what is read of it have alike
   pub read-alike : {A : Type 0} (f : File → A)

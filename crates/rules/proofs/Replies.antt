@@ -2,7 +2,7 @@
 use Prim.Native.Nat.{_<_}
 use native.Mathlib.Omega.{arith}
 use Rattle.rules.specs.declared.Answer.{Answer}
-use Rattle.rules.specs.declared.Answer.the-variants.{Worked, TooShort, WrongEdition, CountOutOfRange, WrongOffsetOrLength, WallOutOfRange, LoadOutOfRange, NinthLoad, BufferTooShort, OutputTooShort, NoSuchWall}
+use Rattle.rules.specs.declared.Answer.the-variants.{Worked, TooShort, WrongEdition, CountOutOfRange, WrongOffset, WrongLength, WallOutOfRange, LoadOutOfRange, NinthLoad, BufferTooShort, OutputTooShort, NoSuchWall}
 use Rattle.rules.specs.Answered.{number}
 
 -- 18 is the last number in the table of refusals
@@ -11,8 +11,9 @@ number-below Worked = omega arith
 number-below TooShort = omega arith
 number-below WrongEdition = omega arith
 number-below CountOutOfRange = omega arith
-number-below WrongOffsetOrLength = omega arith
-number-below (WallOutOfRange wall) = omega arith
+number-below WrongOffset = omega arith
+number-below WrongLength = omega arith
+number-below (WallOutOfRange wall field) = omega arith
 number-below (LoadOutOfRange load) = omega arith
 number-below (NinthLoad load) = omega arith
 number-below BufferTooShort = omega arith

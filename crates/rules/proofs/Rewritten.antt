@@ -15,11 +15,11 @@ use Rattle.rules.specs.declared.Answer.the-variants.{Worked, CountOutOfR
 use Rattle.rules.specs.declared.Taken.{Taken}
 use Rattle.rules.specs.declared.Written.{Written}
 use Rattle.rules.specs.JobFile.{File, u16At, u32At, u32sAt, thisEdition, headerBytes, wallFields, entryFields, entryBytes, mostWalls, mostLoads, edition, wallCount, firstWallOffset, loadCount, firstLoadOffset, wholeLength, entriesAt, wallAt, entryAt, walls, entries}
-use Rattle.rules.specs.Answered.{isWorked, refusedIf, countsFit, offsetsAndLengthFit, firstRefusal, accepted}
+use Rattle.rules.specs.Answered.{isWorked, refusedIf, countsFit, offsetsFit, lengthFits, firstRefusal, accepted}
 use Rattle.rules.specs.SheetLine.{joined, refusalText}
 use Rattle.rules.specs.Beyond.{onto, Put}
 use Rattle.rules.specs.WrittenFile.{recordCount, recordsIn, u16Bytes, u32Bytes, u16sBytes, u32sBytes, wallsEnd, loadsEnd, headerOf, fileOf, recordsFit, recordsAnswer, writingAnswer, bytesWritten, Writes, takingAnswer, wallsTaken, loadsTaken, TakesApart, fileRoom, rewritten}
-use Rattle.rules.proofs.AcceptedFile.{first-worked, not-refused, passes, edition-is, counts-fit, wall-count, load-count, offsets-fit, ends, length-is}
+use Rattle.rules.proofs.AcceptedFile.{first-worked, not-refused, passes, edition-is, counts-fit, wall-count, load-count, offsets-fit, length-fits, ends, length-is}
 use Rattle.rules.proofs.Bytes.{Numbers, u16sAt, u32s-length, u16s-back, u32s-back, u16s-again, u32s-again, u32s-count, joined-records, records-again, header-length, file-length}
 use Rattle.rules.proofs.LongInput.{IsByte, leastRead, read-alike}
 use Rattle.rules.proofs.Points.{caseA, wallA}
@@ -74,15 +74,15 @@ fit-alike file =
 -- ---- a file whose header is of this edition, with the offsets and the length that its counts give
 
 abbrev RightHeader : File → Type 0
-RightHeader file = (edition file ≡ thisEdition) × T (offsetsAndLengthFit file)
+RightHeader file = (edition file ≡ thisEdition) × T (offsetsFit file) × T (lengthFits file)
 
 right-header : (file : File) → T (accepted file) → RightHeader file
-right-header file t = (edition-is file t, offsets-fit file t)
+right-header file t = (edition-is file t, offsets-fit file t, length-fits file t)
 
 -- it is no shorter than its header
 header-within : (file : File) → RightHeader file → headerBytes ≤ length file
 unfolding entriesAt
-header-within file right = omega (arith, ends file (right .1))
+header-within file right = omega (arith, ends file (right .2))
 
 -- it is answered as its records are
 answered-alike : (file : File) → RightHeader file → firstRefusal file ≡ recordsAnswer (joined (walls file)) (joined (entries file))
@@ -94,7 +94,8 @@ answered-alike file right =
       entries-again file,
       le-ltb (length file) headerBytes (header-within file right),
       eq-eqb (edition file) thisEdition (right .0),
-      is-true (offsetsAndLengthFit file) (right .1),
+      is-true (offsetsFit file) (right .1),
+      is-true (lengthFits file) (right .2),
     )
 
 -- the six numbers of its header are those that its counts make
@@ -102,12 +103,12 @@ abbrev headerNumbers : ℕ → ℕ → List ℕ
 headerNumbers wallCount loadCount = thisEdition ∷ wallCount ∷ headerBytes ∷ loadCount ∷ wallsEnd wallCount ∷ loadsEnd wallCount loadCount ∷ []
 
 header-numbers : (file : File) → RightHeader file → u16sAt file 0 6 ≡ headerNumbers (wallCount file) (loadCount file)
-unfolding offsetsAndLengthFit u16sAt entriesAt
+unfolding offsetsFit u16sAt entriesAt
 header-numbers file right =
-    let tests = simp and-eq-true-iff at (is-true (offsetsAndLengthFit file) (right .1)) in
+    let tests = simp and-eq-true-iff at (is-true (offsetsFit file) (right .1)) in
     let first : firstWallOffset file ≡ headerBytes = omega (arith, eqb-true, tests) in
     let second : firstLoadOffset file ≡ wallsEnd (wallCount file) = omega (arith, eqb-true, tests) in
-    let whole : wholeLength file ≡ loadsEnd (wallCount file) (loadCount file) = omega (arith, eqb-true, tests) in
+    let whole : wholeLength file ≡ loadsEnd (wallCount file) (loadCount file) = omega (arith, ends file (right .2)) in
     rw (right .0, first, second, whole)
 
 -- and they are written as they stood
@@ -179,12 +180,19 @@ module _ (ws ls : List ℕ) (wallNumbers : Numbers ws) (loadNumbers : Numbers ls
   loads-counted = header-says 3
 
   -- and it is right
-  offsets-back : T (offsetsAndLengthFit made)
-  unfolding offsetsAndLengthFit u16sAt entriesAt
+  offsets-back : T (offsetsFit made)
+  unfolding offsetsFit u16sAt entriesAt
   offsets-back =
       rw (
         eq-eqb (firstWallOffset made) headerBytes (header-says 2),
         eq-eqb (firstLoadOffset made) (entriesAt made) (omega (arith, walls-counted, header-says 4)),
+      )
+      tt
+
+  length-back : T (lengthFits made)
+  unfolding lengthFits u16sAt entriesAt
+  length-back =
+      rw (
         eq-eqb (wholeLength made) (entriesAt made + entryBytes * loadCount made) (omega (arith, walls-counted, loads-counted, header-says 5)),
         eq-eqb (wholeLength made) (length made) (omega (arith, header-says 5, file-length ws ls, counts ws ls fit)),
       )
@@ -192,7 +200,7 @@ module _ (ws ls : List ℕ) (wallNumbers : Numbers ws) (loadNumbers : Numbers ls
 
   made-right : RightHeader made
   unfolding u16sAt
-  made-right = (header-says 0, offsets-back)
+  made-right = (header-says 0, offsets-back, length-back)
 
   -- the walls stand behind the header, and the loads behind the walls
   walls-back : joined (walls made) ≡ ws

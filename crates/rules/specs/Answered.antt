@@ -1,12 +1,12 @@
--- Document 01, "What is answered": each answer's number and place, and the first refusal of a job file in the order of the tests.
+-- Document 01, "What is answered", as request #102 of document 02 has it: each answer's number and place, and the first refusal of a job file in the order of the tests.
 use Prim.Native.Nat.{ℕ, suc, _+_, _-_, _*_}
 use mathlib.Core.Bool.{Bool, not, _&&_, cond}
 use mathlib.Core.List.{List, [], _∷_, _++_}
 use lib.Dec.{leb, ltb, eqb}
 use lib.ListN.{length, getD}
 use Rattle.rules.specs.declared.Answer.{Answer}
-use Rattle.rules.specs.declared.Answer.the-variants.{Worked, TooShort, WrongEdition, CountOutOfRange, WrongOffsetOrLength, WallOutOfRange, LoadOutOfRange, NinthLoad, BufferTooShort, OutputTooShort, NoSuchWall}
-use Rattle.rules.specs.JobFile.{File, Wall, Entry, headerBytes, thisEdition, edition, wallCount, firstWallOffset, loadCount, firstLoadOffset, wholeLength, entryBytes, mostWalls, mostLoads, mostLoadsOnWall, entriesAt, walls, entries, wallFits, wallOf, loadOf, loadFits, loadsOn}
+use Rattle.rules.specs.declared.Answer.the-variants.{Worked, TooShort, WrongEdition, CountOutOfRange, WrongOffset, WrongLength, WallOutOfRange, LoadOutOfRange, NinthLoad, BufferTooShort, OutputTooShort, NoSuchWall}
+use Rattle.rules.specs.JobFile.{File, Wall, Entry, headerBytes, thisEdition, edition, wallCount, firstWallOffset, loadCount, firstLoadOffset, wholeLength, entryBytes, mostWalls, mostLoads, mostLoadsOnWall, entriesAt, walls, entries, firstBadField, wallFits, wallOf, loadOf, loadFits, loadsOn}
 
 -- a refusal's number; 0 says that the job is worked
 abbrev pub number : Answer → ℕ
@@ -14,22 +14,24 @@ number Worked = 0
 number TooShort = 1
 number WrongEdition = 2
 number CountOutOfRange = 3
-number WrongOffsetOrLength = 4
-number (WallOutOfRange wall) = 5
+number WrongOffset = 4
+number WrongLength = 10
+number (WallOutOfRange wall field) = 5
 number (LoadOutOfRange load) = 6
 number (NinthLoad load) = 7
 number BufferTooShort = 8
 number OutputTooShort = 9
 number (NoSuchWall wall) = 18
 
--- its place
+-- its place; a wall and its field have one together
 abbrev pub place : Answer → ℕ
 place Worked = 0
 place TooShort = 0
 place WrongEdition = 0
 place CountOutOfRange = 0
-place WrongOffsetOrLength = 0
-place (WallOutOfRange wall) = wall
+place WrongOffset = 0
+place WrongLength = 0
+place (WallOutOfRange wall field) = wall * 100 + field
 place (LoadOutOfRange load) = load
 place (NinthLoad load) = load
 place BufferTooShort = 0
@@ -48,23 +50,22 @@ infixr 20 _orElse_
 abbrev pub _orElse_ : Answer → Answer → Answer
 first orElse second = cond (isWorked first) second first
 
--- ---- 3: the counts; 4: the offsets and the length that they give
+-- ---- 3: the counts; 4: the offsets that they give; 10: the length that they give, which is the input's too
 
 unfoldable pub countsFit : File → Bool
 countsFit file = leb 1 (wallCount file) && leb (wallCount file) mostWalls && leb (loadCount file) mostLoads
 
-unfoldable pub offsetsAndLengthFit : File → Bool
-offsetsAndLengthFit file =
-    eqb (firstWallOffset file) headerBytes
-    && eqb (firstLoadOffset file) (entriesAt file)
-    && eqb (wholeLength file) (entriesAt file + entryBytes * loadCount file)
-    && eqb (wholeLength file) (length file)
+unfoldable pub offsetsFit : File → Bool
+offsetsFit file = eqb (firstWallOffset file) headerBytes && eqb (firstLoadOffset file) (entriesAt file)
+
+unfoldable pub lengthFits : File → Bool
+lengthFits file = eqb (wholeLength file) (entriesAt file + entryBytes * loadCount file) && eqb (wholeLength file) (length file)
 
 -- ---- 5: walls in file order, the first of them number n
 
--- a wall with a field out of range is refused at the number that it has
+-- a wall with a field out of range is refused at the number that it has, and at the first such field
 unfoldable pub wallAnswer : ℕ → Wall → Answer
-wallAnswer n wall = refusedIf (not (wallFits wall)) (WallOutOfRange n)
+wallAnswer n wall = refusedIf (not (wallFits wall)) (WallOutOfRange n (firstBadField wall))
 
 unfoldable pub firstBadWall : ℕ → List Wall → Answer
 firstBadWall n [] = Worked
@@ -93,14 +94,15 @@ firstBadLoad there passed n (entry ∷ rest) =
     orElse refusedIf (isOneMore passed entry) (NinthLoad n)
     orElse firstBadLoad there (passed ++ entry ∷ []) (suc n) rest
 
--- ---- 1 to 7, in order
+-- ---- 1 to 7, in order, with 10 behind 4
 
 unfoldable pub firstRefusal : File → Answer
 firstRefusal file =
     refusedIf (ltb (length file) headerBytes) TooShort
     orElse refusedIf (not (eqb (edition file) thisEdition)) WrongEdition
     orElse refusedIf (not (countsFit file)) CountOutOfRange
-    orElse refusedIf (not (offsetsAndLengthFit file)) WrongOffsetOrLength
+    orElse refusedIf (not (offsetsFit file)) WrongOffset
+    orElse refusedIf (not (lengthFits file)) WrongLength
     orElse firstBadWall 1 (walls file)
     orElse firstBadLoad (walls file) [] 1 (entries file)
 

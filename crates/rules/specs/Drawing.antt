@@ -49,7 +49,7 @@ shapeBy NoBlock b = Nothing
 unfoldable pub shapeOf : Block → Shape
 shapeOf b = shapeBy (b .kind) b
 
--- ---- what is answered: 1 to 7, and then 18
+-- ---- what is answered: the refusals of the file, and then 18
 
 unfoldable pub answerToDrawing : File → ℕ → Answer
 answerToDrawing file n = firstRefusal file orElse refusedIf (not (isThere n (walls file))) (NoSuchWall n)

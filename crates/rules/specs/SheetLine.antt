@@ -120,7 +120,7 @@ unfoldable pub joined : {A : Type 0} → List (List A) → List A
 joined [] = []
 joined (list ∷ rest) = list ++ joined rest
 
--- 1 to 7, and 8 last, where room for so many numbers is lent
+-- the refusals of the file, and 8 last, where room for so many numbers is lent
 unfoldable pub answerTo : File → ℕ → Answer
 answerTo file room = firstRefusal file orElse refusedIf (ltb room (lineNumbers * wallCount file)) BufferTooShort
 

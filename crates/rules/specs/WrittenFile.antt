@@ -97,7 +97,7 @@ pub record Writes (walls loads before : List ℕ) (written : Written) (after : L
 
 -- ---- a file taken apart
 
--- 1 to 7, and 8 last, where room for so many numbers is lent for the walls and for the loads
+-- the refusals of the file, and 8 last, where room for so many numbers is lent for the walls and for the loads
 unfoldable pub takingAnswer : File → ℕ → ℕ → Answer
 takingAnswer file wallRoom loadRoom =
     firstRefusal file

@@ -17,15 +17,16 @@ pub enum Range {
     ABar,
 }
 
-// What is answered: a case for each row of document 01's table of refusals, and one for a job that is worked.
+// What is answered: a case for each row of the table of refusals, in the order of their tests, and one for a job that is worked.
 pub enum Answer {
     Worked,
     TooShort,
     WrongEdition,
     CountOutOfRange,
-    WrongOffsetOrLength,
-    // the wall's number
-    WallOutOfRange(u32),
+    WrongOffset,
+    WrongLength,
+    // the wall's number, and that of its first field out of range; of 16 bits, so that the place that they make has no more than 32
+    WallOutOfRange(u16, u16),
     // the load's number
     LoadOutOfRange(u32),
     // the load's number

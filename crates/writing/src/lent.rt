@@ -94,7 +94,7 @@ fn first_bad_wall(walls: &[u32]) -> Answer
     ensures { λ r. ⌜ r ≡ firstBadWall 1 (recordsIn wallFields (now (walls .entry))) ⌝ }
 {
     for i in 0..wall_count(walls) {
-        let answer = record::wall_answer(wall_in(walls, i), (i + 1) as u32);
+        let answer = record::wall_answer(wall_in(walls, i), (i + 1) as u16);
         if !reply::is_worked(answer) {
             return answer;
         }

@@ -47,4 +47,4 @@ returns-2 c = let e : c .before .loop .i ≡ wallFields = omega arith in sym (c 
 pub first-bad-field-spec : {M : Type 1} → statement M
 first-bad-field-spec =
     tie.close (tie.spec Inv-loop μ-loop (λ c κs. tt) loop-holds (λ c. omega arith) (λ c. omega arith) (λ c. omega arith) (λ c. omega arith)
-    (λ c κs. tt) (λ c. omega arith) returns (λ c. omega arith) (λ c. omega arith) loop-again returns-2)
+    (λ c κs. tt) (λ c. omega arith) (λ c. omega arith) returns (λ c. omega arith) (λ c. omega arith) loop-again returns-2)

@@ -5,7 +5,7 @@ use mathlib.Core.List.{[], _∷_}
 use borrow.Author.Needs.{needs}
 use types.Run.{miss}
 use Rattle.rules.specs.declared.Answer.{Answer}
-use Rattle.rules.specs.declared.Answer.the-variants.{Worked, TooShort, WrongEdition, CountOutOfRange, WrongOffsetOrLength, WallOutOfRange, LoadOutOfRange, NinthLoad, BufferTooShort, OutputTooShort, NoSuchWall}
+use Rattle.rules.specs.declared.Answer.the-variants.{Worked, TooShort, WrongEdition, CountOutOfRange, WrongOffset, WrongLength, WallOutOfRange, LoadOutOfRange, NinthLoad, BufferTooShort, OutputTooShort, NoSuchWall}
 use Rattle.rules.specs.Answered.{isWorked}
 use Rattle.reply.proofs.is_worked.Statement.{statement}
 use Rattle.reply.proofs.is_worked.Tie as tie
@@ -16,8 +16,9 @@ refused Worked not = absurd (not refl)
 refused TooShort not = refl
 refused WrongEdition not = refl
 refused CountOutOfRange not = refl
-refused WrongOffsetOrLength not = refl
-refused (WallOutOfRange wall) not = refl
+refused WrongOffset not = refl
+refused WrongLength not = refl
+refused (WallOutOfRange wall field) not = refl
 refused (LoadOutOfRange load) not = refl
 refused (NinthLoad load) not = refl
 refused BufferTooShort not = refl
@@ -32,7 +33,7 @@ returns c = rw (c .enum-told .given .1)
 
 returns-2 : tie.Need-returns-2
 returns-2 c =
-    let other = miss (1 ∷ 2 ∷ 3 ∷ 4 ∷ 5 ∷ 6 ∷ 7 ∷ 8 ∷ 9 ∷ 10 ∷ []) 0 tt in
+    let other = miss (1 ∷ 2 ∷ 3 ∷ 4 ∷ 5 ∷ 6 ∷ 7 ∷ 8 ∷ 9 ∷ 10 ∷ 11 ∷ []) 0 tt in
     sym (refused (c .before .args .answer) (λ e. other (rw e at (c .match .keys2))))
 
 pub is-worked-spec : {M : Type 1} → statement M

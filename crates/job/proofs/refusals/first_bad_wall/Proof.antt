@@ -38,5 +38,5 @@ pub first-bad-wall-spec : {M : Type 1} → statement M
 first-bad-wall-spec =
     tie.close
     (tie.spec
-    Inv-loop μ-loop (λ c κs. tt) (λ c. omega arith) loop-holds (λ c κs. tt) (λ c. omega arith) (λ c κs. tt) (λ c κs. tt) returns (λ c. omega arith)
+    Inv-loop μ-loop (λ c κs. tt) loop-holds (λ c. omega arith) (λ c κs. tt) (λ c. omega arith) (λ c κs. tt) (λ c κs. tt) returns (λ c. omega arith)
     (λ c. omega arith) loop-again returns-2)
