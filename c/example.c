@@ -39,8 +39,9 @@ static const char *reason(uint32_t refusal)
     case OFFICE_TOO_SHORT: return "the file is too short for a header";
     case OFFICE_WRONG_EDITION: return "wrong edition";
     case OFFICE_COUNT_OUT_OF_RANGE: return "the number of walls or of loads is out of range, or a record isn't whole";
-    case OFFICE_WRONG_OFFSET_OR_LENGTH: return "an offset or the length is wrong";
-    case OFFICE_WALL_OUT_OF_RANGE: return "a field is out of range in wall";
+    case OFFICE_WRONG_OFFSET: return "an offset is wrong";
+    case OFFICE_WRONG_LENGTH: return "the length is wrong";
+    case OFFICE_WALL_OUT_OF_RANGE: return "a field is out of range,";
     case OFFICE_LOAD_OUT_OF_RANGE: return "a field is out of range, or the wall isn't there, in load";
     case OFFICE_NINTH_LOAD: return "a wall has a ninth load, load";
     case OFFICE_BUFFER_TOO_SHORT: return "the buffer is too short";
@@ -53,7 +54,9 @@ static const char *reason(uint32_t refusal)
 static int refused(uint64_t answer)
 {
     printf("refused, %u: %s", (unsigned)office_answer_number(answer), reason(office_answer_number(answer)));
-    if (office_answer_place(answer) != 0)
+    if (office_answer_wall(answer) != 0)
+        printf(" field %lu of wall %lu", (unsigned long)office_answer_field(answer), (unsigned long)office_answer_wall(answer));
+    else if (office_answer_place(answer) != 0)
         printf(" %lu", (unsigned long)office_answer_place(answer));
     printf("\n");
     return 1;

@@ -53,23 +53,34 @@ static inline uint32_t office_answer_shape(uint64_t answer) { return (uint32_t)(
 static inline size_t office_answer_bytes(uint64_t answer) { return (size_t)(answer >> 48); }     /* of a job that is written */
 
 /*
- * A refusal's number. Of several faults the one that stands higher here is named, 8 or 9 after all others; among walls the first, and then
- * among loads the first, whether for 6 or 7; a load with both faults has 6.
+ * A refusal's number. Of several faults the one that stands higher here is named; among walls the first, and of that wall the first field,
+ * in field order; among loads the first, whether for 6 or 7, and a load with both faults has 6.
  */
 enum office_refusal {
     OFFICE_WORKED = 0,                 /* no refusal */
     OFFICE_TOO_SHORT = 1,              /* the job has fewer than 12 bytes */
     OFFICE_WRONG_EDITION = 2,          /* its edition isn't 1 */
     OFFICE_COUNT_OUT_OF_RANGE = 3,     /* it has no wall or more than 64, or more than 512 loads; or a record isn't whole */
-    OFFICE_WRONG_OFFSET_OR_LENGTH = 4, /* the offsets and the length don't follow from the counts, or the length isn't that of the job */
-    OFFICE_WALL_OUT_OF_RANGE = 5,      /* a wall has a field out of range; the place is the wall's number */
+    OFFICE_WRONG_OFFSET = 4,           /* an offset isn't the one that the counts give */
+    OFFICE_WRONG_LENGTH = 10,          /* the length isn't, or isn't that of the job */
+    OFFICE_WALL_OUT_OF_RANGE = 5,      /* a wall has a field out of range; the place is the wall's number x 100 + the field's */
     OFFICE_LOAD_OUT_OF_RANGE = 6,      /* a load has one, or is on no wall of the job; the place is the load's number */
     OFFICE_NINTH_LOAD = 7,             /* a load is the ninth on its wall; the place is the load's number */
+    OFFICE_NO_SUCH_WALL = 18,          /* the job has no wall of the number asked for, which is the place */
     OFFICE_BUFFER_TOO_SHORT = 8,       /* the lent buffer hasn't the room */
-    OFFICE_OUTPUT_TOO_SHORT = 9,       /* it hasn't the room for the job that is to be written */
-    OFFICE_NO_SUCH_WALL = 18           /* the job has no wall of the number asked for, which is the place */
+    OFFICE_OUTPUT_TOO_SHORT = 9        /* it hasn't the room for the job that is to be written */
 };
-/* Walls and loads are numbered from 1, in the job's order. Where no place is named it is 0. */
+/* Walls, fields and loads are numbered from 1, in the job's order. Where no place is named it is 0. */
+
+/* The wall and the field that OFFICE_WALL_OUT_OF_RANGE names, the field by its number in docs/JOB-FILE.md; 0 of any other answer. */
+static inline uint32_t office_answer_wall(uint64_t answer)
+{
+    return office_answer_number(answer) == OFFICE_WALL_OUT_OF_RANGE ? office_answer_place(answer) / 100 : 0;
+}
+static inline uint32_t office_answer_field(uint64_t answer)
+{
+    return office_answer_number(answer) == OFFICE_WALL_OUT_OF_RANGE ? office_answer_place(answer) % 100 : 0;
+}
 
 /* ---- the sheet in numbers */
 
@@ -107,8 +118,8 @@ enum office_failure {
 
 /*
  * The sheet of a job. Where it is worked the answer is 0, and the buffer holds 16 numbers for each wall, in the job's order, and behind
- * them what it held before. A refusal is 1 to 8, with its place, and the buffer is as it was; it is 8 where the buffer has room for fewer
- * than 16 numbers for each wall. The shape is 0.
+ * them what it held before. A refusal is 1 to 8 or 10, with its place, and the buffer is as it was; it is 8 where the buffer has room for
+ * fewer than 16 numbers for each wall. The shape is 0.
  */
 uint64_t office_calculate(const uint8_t *job, size_t job_length, int64_t *out, size_t out_length);
 
@@ -121,7 +132,7 @@ bool office_has_failed(uint8_t failures, uint8_t check);
 /* ---- the sheet as it is printed */
 
 /*
- * The text of a job, in ASCII: a line for each wall, or one that says `refused` with the refusal's number, 1 to 7, and its place. It is
+ * The text of a job, in ASCII: a line for each wall, or one that says `refused` with the refusal's number, 1 to 7 or 10, and its place. It is
  * put at the start of the buffer, with no 0 behind it, and what stands behind it is as it was. The answer is how many bytes it took. A
  * buffer with fewer than 21504 bytes is left as it was, and the answer is 0, whatever the job.
  */
@@ -149,14 +160,14 @@ enum office_figure {
 /*
  * The drawing of a wall, by its number in the job, from 1. Where it is drawn the answer's refusal is 0 and its shape is the wall's, and the
  * buffer holds five figures, or three where the shape is nothing, and behind them what it held before. Each is a quotient of two whole
- * numbers, rounded once, and none is a NaN. A refusal is 1 to 7, 18, or 8 where the buffer has room for fewer than five doubles, whatever
+ * numbers, rounded once, and none is a NaN. A refusal is 1 to 7, 10, 18, or 8 where the buffer has room for fewer than five doubles, whatever
  * the shape; then the shape is 0, and the buffer is as it was.
  */
 uint64_t office_drawing(const uint8_t *job, size_t job_length, uint32_t wall, double *out, size_t out_length);
 
 /* ---- a job's records */
 
-/* Where each number of a wall's record stands. Lengths are in mm, densities in 10 N/m3, coefficients in thousandths. */
+/* Where each number of a wall's record stands, which is its field's number less 1. docs/JOB-FILE.md has their ranges. Lengths are in mm, densities in 10 N/m3, coefficients in thousandths. */
 enum office_wall {
     OFFICE_WALL_KIND,              /* 0 unpropped, 1 propped at the base */
     OFFICE_WALL_STEM_HEIGHT,
@@ -206,8 +217,8 @@ static inline size_t office_load_count(const uint8_t *job) { return job[6] + 256
 
 /*
  * The records of a job. Where it is taken apart the answer is 0, and the one buffer holds 31 numbers for each wall, the other 5 for each
- * load, in the job's order, and behind them what they held before. A refusal is 1 to 7, with its place, or 8 where either buffer has room
- * for fewer; then both are as they were.
+ * load, in the job's order, and behind them what they held before. A refusal is 1 to 7 or 10, with its place, or 8 where either buffer has
+ * room for fewer; then both are as they were.
  */
 uint64_t office_records(const uint8_t *job, size_t job_length, uint32_t *walls, size_t walls_length, uint32_t *loads, size_t loads_length);
 
