@@ -9,7 +9,7 @@ use lib.Dec.{T, ltb, eqb, not-T}
 use lib.Ieee.Bits.{is-true, is-false}
 use lib.ListN.{length, getD}
 use borrow.Author.Tests.{le-ltb, eq-eqb, eqb-true}
-use Rattle.whole.proofs.Lists.{case}
+use Rattle.whole.proofs.Lists.{FirstFailed, fails-at-once, fails-behind, case}
 use Rattle.rules.specs.declared.Answer.{Answer}
 use Rattle.rules.specs.declared.Answer.the-variants.{Worked, TooShort, WrongEdition, CountOutOfRange, WrongOffset, WrongLength, WallOutOfRange, LoadOutOfRange, NinthLoad, BufferTooShort, OutputTooShort, NoSuchWall}
 use Rattle.rules.specs.declared.Range.{Range}
@@ -32,51 +32,53 @@ pub record FirstBad (wall : Wall) (number : ℕ) : Type 0 where
   pub outside : Ranged wall number → ⊥
   pub before : (earlier : ℕ) → 1 ≤ earlier → earlier < number → Ranged wall earlier
 
--- so far behind the first of some fields, against the list of their ranges
-record Found (wall : Wall) (first : ℕ) (rs : List Range) : Type 0 where
+-- the test of each field from a number on, against a list of ranges
+abbrev fieldTest : Wall → ℕ → List Range → ℕ → Bool
+fieldTest wall first rs j = within wall (getD rs j ABar) (field wall (first + j))
+
+-- the first field that is outside its range stands so far behind the first of them
+record Outside (wall : Wall) (first : ℕ) (rs : List Range) : Type 0 where
   at : ℕ
   is : firstOutside wall first rs ≡ first + at
-  there : at < length rs
-  outside : within wall (getD rs at ABar) (field wall (first + at)) ≡ false
-  passed : (j : ℕ) → j < at → T (within wall (getD rs j ABar) (field wall (first + j)))
+  bad : FirstFailed (length rs) (fieldTest wall first rs) at
 
--- one field that is within its range may stand in front
-in-front : {wall : Wall} {first : ℕ} (r : Range) (rs : List Range) → within wall r (field wall first) ≡ true → Found wall (suc first) rs → Found wall first (r ∷ rs)
+outside : (wall : Wall) (first : ℕ) (rs : List Range) → (firstOutside wall first rs ≡ 0 → ⊥) → Outside wall first rs
 unfolding firstOutside
-in-front {wall} {first} r rs e next =
-    record { at = suc (next .at); is = rw e (next .is ∙ sym (along (next .at))); there = omega (arith, next .there); outside = rw along (next .outside); passed = so-far }
+outside wall first [] some = absurd (some refl)
+outside wall first (r ∷ rs) some = go (within wall r (field wall first)) refl (outside wall (suc first) rs)
   where
+    here : first + 0 ≡ first
+    here = omega arith
+
     along : (j : ℕ) → first + suc j ≡ suc first + j
     along j = omega arith
 
-    so-far : (j : ℕ) → j < suc (next .at) → T (within wall (getD (r ∷ rs) j ABar) (field wall (first + j)))
-    so-far zero h = let k : first + 0 ≡ first = omega arith in rw (k, e) tt
-    so-far (suc j) h = rw along (next .passed j (omega arith))
-
-found : (wall : Wall) (first : ℕ) (rs : List Range) → (firstOutside wall first rs ≡ 0 → ⊥) → Found wall first rs
-unfolding firstOutside
-found wall first [] some = absurd (some refl)
-found wall first (r ∷ rs) some = go (within wall r (field wall first)) refl (found wall (suc first) rs)
-  where
-    go : (fits : Bool) → within wall r (field wall first) ≡ fits → ((firstOutside wall (suc first) rs ≡ 0 → ⊥) → Found wall (suc first) rs) → Found wall first (r ∷ rs)
-    go true e behind = in-front r rs e (behind (λ none. some (rw e none)))
-    go false e behind =
-        let k : first + 0 ≡ first = omega arith in
-        record { at = 0; is = rw e (sym k); there = omega arith; outside = rw (k, e); passed = λ j h. absurd (omega arith) }
+    go : (fits : Bool) → within wall r (field wall first) ≡ fits → ((firstOutside wall (suc first) rs ≡ 0 → ⊥) → Outside wall (suc first) rs)
+        → Outside wall first (r ∷ rs)
+    go true e behind =
+        let next = behind (λ none. some (rw e none)) in
+        record {
+          at = suc (next .at);
+          is = rw e (next .is ∙ sym (along (next .at)));
+          bad = fails-behind (fieldTest wall first (r ∷ rs)) (rw (here, e) tt) (simp along (next .bad));
+        }
+    go false e behind = record { at = 0; is = rw e (sym here); bad = fails-at-once (fieldTest wall first (r ∷ rs)) (rw (here, e)) }
 
 -- of a wall that doesn't fit it is the field that the definition gives
 pub first-bad : (wall : Wall) → T (not (wallFits wall)) → FirstBad wall (firstBadField wall)
 unfolding wallFits firstBadField
-first-bad wall unfit = let f = found wall 1 ranges (λ none. rw none at unfit) in rw (f .is) (go f)
+first-bad wall unfit = let f = outside wall 1 ranges (λ none. rw none at unfit) in rw (f .is) (go (f .bad))
   where
-    go : (f : Found wall 1 ranges) → FirstBad wall (1 + f .at)
-    go f =
-        let k : 1 + f .at - 1 ≡ f .at = omega arith in
+    go : {at : ℕ} → FirstFailed wallFields (fieldTest wall 1 ranges) at → FirstBad wall (1 + at)
+    go {at} bad =
+        let k : 1 + at - 1 ≡ at = omega arith in
         record {
           from = omega arith;
-          to = omega (arith, f .there);
-          outside = λ its. rw (rw k at (f .outside)) at (within-range wall (getD ranges (f .at) ABar) (getD wall (f .at) 0) (rw k at its));
-          before = λ earlier some less. let k : 1 + (earlier - 1) ≡ earlier = omega arith in in-range wall (rangeOf earlier) (field wall earlier) (rw k at (f .passed (earlier - 1) (omega arith)));
+          to = omega (arith, bad .there);
+          outside = λ its. rw (rw k at (bad .fails)) at (within-range wall (getD ranges at ABar) (getD wall at 0) (rw k at its));
+          before = λ earlier some less.
+              let k : 1 + (earlier - 1) ≡ earlier = omega arith in
+              in-range wall (rangeOf earlier) (field wall earlier) (rw k at (bad .passed (earlier - 1) (omega arith)));
         }
 
 -- ---- "the first bad wall"
@@ -106,22 +108,15 @@ module _ (there : List Wall) where
 
 -- ---- walls in order, and loads behind them
 
+abbrev wallTest : List Wall → ℕ → Bool
+wallTest ws j = wallFits (getD ws j [])
+
 -- among walls that are numbered from n, the one that is named stands so far behind the first
 record NamedFrom (n : ℕ) (ws : List Wall) (wall field : ℕ) : Type 0 where
   at : ℕ
   is : wall ≡ n + at
-  there : at < length ws
-  others : (j : ℕ) → j < at → T (wallFits (getD ws j []))
+  bad : FirstFailed (length ws) (wallTest ws) at
   its : FirstBad (getD ws at []) field
-
--- one wall that fits may stand in front
-wall-in-front : {n wall field : ℕ} (w : Wall) {ws : List Wall} → T (wallFits w) → NamedFrom (suc n) ws wall field → NamedFrom n (w ∷ ws) wall field
-wall-in-front w {ws} fits next =
-    record { at = suc (next .at); is = omega (arith, next .is); there = omega (arith, next .there); others = so-far; its = next .its }
-  where
-    so-far : (j : ℕ) → j < suc (next .at) → T (wallFits (getD (w ∷ ws) j []))
-    so-far zero h = fits
-    so-far (suc j) h = next .others j (omega arith)
 
 named : (n : ℕ) (ws : List Wall) → let answer = firstBadWall n ws in number answer ≡ 5 → NamedFrom n ws (place answer / 100) (place answer % 100)
 unfolding firstBadWall wallAnswer
@@ -131,11 +126,13 @@ named n (w ∷ ws) e = go (wallFits w) refl (named (suc n) ws)
     go : (fits : Bool) → wallFits w ≡ fits
         → (let answer = firstBadWall (suc n) ws in number answer ≡ 5 → NamedFrom (suc n) ws (place answer / 100) (place answer % 100))
         → let answer = firstBadWall n (w ∷ ws) in NamedFrom n (w ∷ ws) (place answer / 100) (place answer % 100)
-    go true f behind = rw f (wall-in-front w (rw f tt) (behind (rw f at e)))
+    go true f behind =
+        let next = behind (rw f at e) in
+        rw f (record { at = suc (next .at); is = omega (arith, next .is); bad = fails-behind (wallTest (w ∷ ws)) (rw f tt) (next .bad); its = next .its })
     go false f behind =
         let first = first-bad w (rw f tt) in
         let rest : (n * 100 + firstBadField w) % 100 ≡ firstBadField w = omega (arith, first .to) in
-        rw f (record { at = 0; is = omega (arith, first .to); there = omega arith; others = λ j h. absurd (omega arith); its = rw rest first })
+        rw f (record { at = 0; is = omega (arith, first .to); bad = fails-at-once (wallTest (w ∷ ws)) f; its = rw rest first })
 
 -- numbered from 1, they have the numbers of a file
 from-1 : {there : List Wall} {wall field : ℕ} → NamedFrom 1 there wall field → Names there wall field
@@ -143,8 +140,8 @@ from-1 {wall = wall} f =
     let k : wall - 1 ≡ f .at = omega (arith, f .is) in
     record {
       from = omega (arith, f .is);
-      to = omega (arith, f .is, f .there);
-      others = λ earlier some less. f .others (earlier - 1) (omega (arith, f .is));
+      to = omega (arith, f .is, f .bad .there);
+      others = λ earlier some less. f .bad .passed (earlier - 1) (omega (arith, f .is));
       its = rw k (f .its);
     }
 
@@ -227,23 +224,21 @@ length-tested file = (ends file, λ right. rw (eq-eqb _ _ (right .1), eq-eqb _ _
 
 -- of a file that passes 1 to 3
 module _ (file : File) (long : headerBytes ≤ length file) (one : edition file ≡ thisEdition) (counts : T (countsFit file)) where
-  pub offset-refused : (OffsetsRight file → ⊥) → firstRefusal file ≡ WrongOffset
+  past-counts : firstRefusal file
+      ≡ (refusedIf (not (offsetsFit file)) WrongOffset orElse refusedIf (not (lengthFits file)) WrongLength
+      orElse firstBadWall 1 (walls file) orElse firstBadLoad (walls file) [] 1 (entries file))
   unfolding firstRefusal
-  offset-refused wrong =
-      let unfit = is-false (offsetsFit file) (not-T (offsetsFit file) (λ t. wrong (offsets-tested file .0 t))) in
-      rw (le-ltb (length file) headerBytes, eq-eqb (edition file) thisEdition, is-true (countsFit file), unfit)
+  past-counts = rw (le-ltb (length file) headerBytes, eq-eqb (edition file) thisEdition, is-true (countsFit file))
+
+  pub offset-refused : (OffsetsRight file → ⊥) → firstRefusal file ≡ WrongOffset
+  offset-refused wrong = past-counts ∙ rw (is-false (offsetsFit file) (not-T (offsetsFit file) (λ t. wrong (offsets-tested file .0 t))))
 
   module _ (right : OffsetsRight file) where
+    fit : offsetsFit file ≡ true
+    fit = is-true (offsetsFit file) (offsets-tested file .1 right)
+
     pub length-refused : (LengthRight file → ⊥) → firstRefusal file ≡ WrongLength
-    unfolding firstRefusal
-    length-refused wrong =
-        let fit = is-true (offsetsFit file) (offsets-tested file .1 right) in
-        let unfit = is-false (lengthFits file) (not-T (lengthFits file) (λ t. wrong (length-tested file .0 t))) in
-        rw (le-ltb (length file) headerBytes, eq-eqb (edition file) thisEdition, is-true (countsFit file), fit, unfit)
+    length-refused wrong = past-counts ∙ rw (fit, is-false (lengthFits file) (not-T (lengthFits file) (λ t. wrong (length-tested file .0 t))))
 
     pub then-walls : LengthRight file → firstRefusal file ≡ (firstBadWall 1 (walls file) orElse firstBadLoad (walls file) [] 1 (entries file))
-    unfolding firstRefusal
-    then-walls ended =
-        let fit = is-true (offsetsFit file) (offsets-tested file .1 right) in
-        let fits = is-true (lengthFits file) (length-tested file .1 ended) in
-        rw (le-ltb (length file) headerBytes, eq-eqb (edition file) thisEdition, is-true (countsFit file), fit, fits)
+    then-walls ended = past-counts ∙ rw (fit, is-true (lengthFits file) (length-tested file .1 ended))
