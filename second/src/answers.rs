@@ -16,37 +16,27 @@ pub struct Refusal {
 
 /// The refusal of a count out of range; a buffer that isn't whole records is
 /// met with it too.
-pub const COUNT_OUT_OF_RANGE: Refusal = Refusal {
-    number: 3,
-    place: 0,
-};
+pub const COUNT_OUT_OF_RANGE: Refusal = Refusal::at_nought(3);
 
 /// The refusal of an offset that isn't the one the counts give.
-pub const WRONG_OFFSET: Refusal = Refusal {
-    number: 4,
-    place: 0,
-};
+pub const WRONG_OFFSET: Refusal = Refusal::at_nought(4);
 
 /// The refusal of a length that isn't the one the counts give, or isn't the
 /// input's.
-pub const WRONG_LENGTH: Refusal = Refusal {
-    number: 10,
-    place: 0,
-};
+pub const WRONG_LENGTH: Refusal = Refusal::at_nought(10);
 
 /// The refusal of a lent buffer that is too short, after all others.
-pub const BUFFER_TOO_SHORT: Refusal = Refusal {
-    number: 8,
-    place: 0,
-};
+pub const BUFFER_TOO_SHORT: Refusal = Refusal::at_nought(8);
 
 /// The same where a job file was to be written.
-pub const OUTPUT_TOO_SHORT: Refusal = Refusal {
-    number: 9,
-    place: 0,
-};
+pub const OUTPUT_TOO_SHORT: Refusal = Refusal::at_nought(9);
 
 impl Refusal {
+    /// A refusal that names no place.
+    const fn at_nought(number: u8) -> Refusal {
+        Refusal { number, place: 0 }
+    }
+
     /// The refusal of a wall's field out of range, both counted from 1. There are
     /// fewer than a hundred fields, so that its place says which of them.
     pub fn of_field(wall: usize, field: usize) -> Refusal {
