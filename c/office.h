@@ -57,18 +57,18 @@ static inline size_t office_answer_bytes(uint64_t answer) { return (size_t)(answ
  * in field order; among loads the first, whether for 6 or 7, and a load with both faults has 6.
  */
 enum office_refusal {
-    OFFICE_WORKED = 0,                 /* no refusal */
-    OFFICE_TOO_SHORT = 1,              /* the job has fewer than 12 bytes */
-    OFFICE_WRONG_EDITION = 2,          /* its edition isn't 1 */
-    OFFICE_COUNT_OUT_OF_RANGE = 3,     /* it has no wall or more than 64, or more than 512 loads; or a record isn't whole */
-    OFFICE_WRONG_OFFSET = 4,           /* an offset isn't the one that the counts give */
-    OFFICE_WRONG_LENGTH = 10,          /* the length isn't, or isn't that of the job */
-    OFFICE_WALL_OUT_OF_RANGE = 5,      /* a wall has a field out of range; the place is the wall's number x 100 + the field's */
-    OFFICE_LOAD_OUT_OF_RANGE = 6,      /* a load has one, or is on no wall of the job; the place is the load's number */
-    OFFICE_NINTH_LOAD = 7,             /* a load is the ninth on its wall; the place is the load's number */
-    OFFICE_NO_SUCH_WALL = 18,          /* the job has no wall of the number asked for, which is the place */
-    OFFICE_BUFFER_TOO_SHORT = 8,       /* the lent buffer hasn't the room */
-    OFFICE_OUTPUT_TOO_SHORT = 9        /* it hasn't the room for the job that is to be written */
+    OFFICE_WORKED = 0,             /* no refusal */
+    OFFICE_TOO_SHORT = 1,          /* the job has fewer than 12 bytes */
+    OFFICE_WRONG_EDITION = 2,      /* its edition isn't 1 */
+    OFFICE_COUNT_OUT_OF_RANGE = 3, /* it has no wall or more than 64, or more than 512 loads; or a record isn't whole */
+    OFFICE_WRONG_OFFSET = 4,       /* an offset isn't the one that the counts give */
+    OFFICE_WRONG_LENGTH = 10,      /* the length isn't, or isn't that of the job */
+    OFFICE_WALL_OUT_OF_RANGE = 5,  /* a wall has a field out of range; the place is the wall's number x 100 + the field's */
+    OFFICE_LOAD_OUT_OF_RANGE = 6,  /* a load has one, or is on no wall of the job; the place is the load's number */
+    OFFICE_NINTH_LOAD = 7,         /* a load is the ninth on its wall; the place is the load's number */
+    OFFICE_NO_SUCH_WALL = 18,      /* the job has no wall of the number asked for, which is the place */
+    OFFICE_BUFFER_TOO_SHORT = 8,   /* the lent buffer hasn't the room */
+    OFFICE_OUTPUT_TOO_SHORT = 9    /* it hasn't the room for the job that is to be written */
 };
 /* Walls, fields and loads are numbered from 1, in the job's order. Where no place is named it is 0. */
 
@@ -132,8 +132,8 @@ bool office_has_failed(uint8_t failures, uint8_t check);
 /* ---- the sheet as it is printed */
 
 /*
- * The text of a job, in ASCII: a line for each wall, or one that says `refused` with the refusal's number, 1 to 7 or 10, and its place. It is
- * put at the start of the buffer, with no 0 behind it, and what stands behind it is as it was. The answer is how many bytes it took. A
+ * The text of a job, in ASCII: a line for each wall, or one that says `refused` with the refusal's number, 1 to 7 or 10, and its place. It
+ * is put at the start of the buffer, with no 0 behind it, and what stands behind it is as it was. The answer is how many bytes it took. A
  * buffer with fewer than 21504 bytes is left as it was, and the answer is 0, whatever the job.
  */
 size_t office_text(const uint8_t *job, size_t job_length, uint8_t *out, size_t out_length);
@@ -167,7 +167,10 @@ uint64_t office_drawing(const uint8_t *job, size_t job_length, uint32_t wall, do
 
 /* ---- a job's records */
 
-/* Where each number of a wall's record stands, which is its field's number less 1. docs/JOB-FILE.md has their ranges. Lengths are in mm, densities in 10 N/m3, coefficients in thousandths. */
+/*
+ * Where each number of a wall's record stands, which is its field's number less 1. Lengths are in mm, densities in 10 N/m3, coefficients in
+ * thousandths. docs/JOB-FILE.md has the ranges.
+ */
 enum office_wall {
     OFFICE_WALL_KIND,              /* 0 unpropped, 1 propped at the base */
     OFFICE_WALL_STEM_HEIGHT,

@@ -113,10 +113,11 @@ pub fn accept_records(
 }
 
 fn accept_walls(records: impl Iterator<Item = RawWall>) -> Result<Vec<Wall>, Refusal> {
-    let numbered = (1..).zip(records);
-    numbered
-        .map(|(number, raw)| accept_wall(number, &raw))
-        .collect()
+    let mut walls = Vec::new();
+    for (index, raw) in records.enumerate() {
+        walls.push(accept_wall(index + 1, &raw)?);
+    }
+    Ok(walls)
 }
 
 /// Takes in the wall of a number, or names the first of its fields, in their
