@@ -4,5 +4,6 @@ pub mod Integer
 pub mod Lists
 pub mod Once
 pub mod OnlyOne
+pub mod Root
 pub mod Rounded
 pub mod Sums

@@ -1,6 +1,8 @@
 -- Document 01, "How strictly it is promised": no second answer fits, of each public entry.
+use mathlib.Core.Path.{refl}
 use Rattle.whole.proofs as whole
 use whole.OnlyOne.{Once, by-equation}
+use whole.Root.{root-only}
 
 pub rounded-up : Once whole.rounded_up.ended whole.rounded_up.Reads.Asked whole.rounded_up.Reads.Learnt
 rounded-up = (λ _ _. tt, λ _ _ _ _ _ _. by-equation)
@@ -19,3 +21,7 @@ excess = (λ _ _. tt, λ _ _ _ _ _ _. by-equation)
 
 pub above-zero : Once whole.above_zero.ended whole.above_zero.Reads.Asked whole.above_zero.Reads.Learnt
 above-zero = (λ _ _. tt, λ _ _ _ _ _ _. by-equation)
+
+-- of two numbers that are both the root, neither is greater
+pub square-root : Once whole.square_root.ended whole.square_root.Reads.Asked whole.square_root.Reads.Learnt
+square-root = (λ _ _. tt, λ _ given _ _ _ _ is its. (root-only (given .0) is its, refl))
