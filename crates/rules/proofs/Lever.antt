@@ -20,11 +20,11 @@ pub record Bears (M fcu D Z : ℕ) : Type 0 where
   pub low : D ≤ 2 * Z
   pub strong : M ≤ 225 * fcu * Z * (D - Z)
 
-tested : (M fcu D Z : ℕ) → T (bears M fcu D Z) → Bears M fcu D Z
+pub tested : (M fcu D Z : ℕ) → T (bears M fcu D Z) → Bears M fcu D Z
 unfolding bears
 tested M fcu D Z t = omega (arith, leb-true, simp and-eq-true-iff at (is-true (bears M fcu D Z) t))
 
-passes : (M fcu D Z : ℕ) → Bears M fcu D Z → T (bears M fcu D Z)
+pub passes : (M fcu D Z : ℕ) → Bears M fcu D Z → T (bears M fcu D Z)
 unfolding bears
 passes M fcu D Z b = rw (le-leb _ _ (b .high), le-leb _ _ (b .low), le-leb _ _ (b .strong)) tt
 
@@ -32,7 +32,7 @@ passes M fcu D Z b = rw (le-leb _ _ (b .high), le-leb _ _ (b .low), le-leb _ _ (
 
 module _ (p : ℕ → Bool) where
   -- where one up to n passes, the greatest passes, and is no less
-  found : (n k : ℕ) → k ≤ n → T (p k) → T (p (greatest p n)) × (k ≤ greatest p n)
+  pub found : (n k : ℕ) → k ≤ n → T (p k) → T (p (greatest p n)) × (k ≤ greatest p n)
   unfolding greatest
   found zero k h t = let e : k ≡ 0 = omega arith in (subst (λ (m : ℕ). T (p m)) e t, h)
   found (suc n) k h t = go (p (suc n)) refl (found n k)
@@ -43,22 +43,27 @@ module _ (p : ℕ → Bool) where
       go false e earlier =
           ⊎-elim (λ (s : k ≡ suc n). absurd (rw e at (subst (λ (m : ℕ). T (p m)) s t))) (λ (l : k < suc n). earlier (omega arith) t) (eq-or-lt-of-le h)
 
-  -- it is found from above: one that passes is it, one that fails is passed over, and so are all from m down to n where none of them passes
-  pub greatest-here : (n : ℕ) → 0 < n → p n ≡ true → greatest p n ≡ n
+  -- it is no more than n, and passes unless it is 0
+  pub greatest-is : (n : ℕ) → (greatest p n ≤ n) × (0 < greatest p n → T (p (greatest p n)))
   unfolding greatest
-  greatest-here zero h e = absurd (omega arith)
-  greatest-here (suc n) h e = rw (e, greatest)
+  greatest-is zero = (omega arith, λ h. absurd (omega arith))
+  greatest-is (suc n) = go (p (suc n)) refl (greatest-is n)
+    where
+      go : (b : Bool) → p (suc n) ≡ b → (greatest p n ≤ n) × (0 < greatest p n → T (p (greatest p n)))
+          → let z : ℕ = elim b [ true ↦ suc n | false ↦ greatest p n ] in (z ≤ suc n) × (0 < z → T (p z))
+      go true e earlier = (omega arith, λ h. rw e tt)
+      go false e earlier = (omega (arith, earlier .0), earlier .1)
 
-  pub greatest-below : (n : ℕ) → 0 < n → p n ≡ false → greatest p n ≡ greatest p (n - 1)
+  -- a number that none which passes exceeds, and that passes unless it is 0, is it
+  pub greatest-only : (n Z : ℕ) → Z ≤ n → ((k : ℕ) → k ≤ n → T (p k) → k ≤ Z) → (0 < Z → T (p Z)) → greatest p n ≡ Z
   unfolding greatest
-  greatest-below zero h e = absurd (omega arith)
-  greatest-below (suc n) h e = let k : suc n - 1 ≡ n = omega arith in rw (k, e, greatest)
-
-  pub greatest-from : (m n : ℕ) → n ≤ m → ((k : ℕ) → n < k → p k ≡ false) → greatest p m ≡ greatest p n
-  unfolding greatest
-  greatest-from zero n h none = let e : n ≡ 0 = omega arith in rw e
-  greatest-from (suc m) n h none =
-      ⊎-elim (λ (e : n ≡ suc m). rw e) (λ (l : n < suc m). rw (greatest, none (suc m) l) (greatest-from m n (omega arith) none)) (eq-or-lt-of-le h)
+  greatest-only zero Z h none is = omega arith
+  greatest-only (suc n) Z h none is = go (p (suc n)) refl (λ l. greatest-only n Z l (λ k i. none k (omega arith)) is)
+    where
+      go : (b : Bool) → p (suc n) ≡ b → (Z ≤ n → greatest p n ≡ Z) → elim b [ true ↦ suc n | false ↦ greatest p n ] ≡ Z
+      go true e earlier = omega (arith, none (suc n) (omega arith) (rw e tt))
+      go false e earlier =
+          ⊎-elim (λ (s : Z ≡ suc n). absurd (rw (s, e) at (is (omega arith)))) (λ (l : Z < suc n). earlier (omega arith)) (eq-or-lt-of-le h)
 
 -- ---- the lever arm
 

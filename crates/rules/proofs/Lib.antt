@@ -4,6 +4,7 @@ pub mod AcceptedFile
 pub mod Additive
 pub mod AsBefore
 pub mod Bits
+pub mod ByRoot
 pub mod Bytes
 pub mod Carries
 pub mod Divisions

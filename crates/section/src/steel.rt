@@ -4,8 +4,9 @@ use rules::Section;
 use rules::Steel;
 ghost use mathlib.Core.Path.{_≡_};
 ghost use Prim.Native.Nat.{_≤_};
-ghost use Rattle.rules.specs.ToeAndStem.{twiceDepth, needsCompression, bears, leverArm, neededArea, leastArea, barArea, providedArea, steelUnder};
+ghost use Rattle.rules.specs.ToeAndStem.{twiceDepth, needsCompression, leverArm, neededArea, leastArea, barArea, providedArea, steelUnder};
 ghost use Rattle.rules.specs.Beyond.{sectionLimit};
+ghost use Rattle.rules.proofs.ByRoot.{leastProduct, unlimitedArm};
 ghost use Rattle.rules.proofs.Sections.{Bounded, deepest, Within, greatestMoment};
 
 // The width that steel is worked for, in mm.
@@ -28,6 +29,12 @@ pub fn twice_depth(section: Section) -> u64
     whole::excess(covered, section.cage.bar)
 }
 
+// BS 8110-1, 3.4.4.4, line by line. The width b is a metre; D is 2d and Z is 2z, in whole half millimetres.
+//     K = M / (b d^2 fcu), at most K' = 0.156      needs_compression: K > K' is M > 39 fcu D^2
+//     z = d (0.5 + root of (0.25 - K / 0.9))       least_product: q is D^2 K / 0.9; lever_by_root: Z is (D + root of (D^2 - 4q)) / 2
+//     but not greater than 0.95 d                  lever_arm
+//     As = M / (0.87 fy z)                         needed_area
+
 // M is more than the section bears without compression steel.
 pub fn needs_compression(m: u64, fcu: u64, d: u64) -> bool
     requires { ⌜ Within fcu d ⌝ }
@@ -36,27 +43,38 @@ pub fn needs_compression(m: u64, fcu: u64, d: u64) -> bool
     39 * fcu * (d * d) < m
 }
 
-// The three tests of a lever arm.
-fn lever_bears(m: u64, fcu: u64, d: u64, z: u64) -> bool
-    requires { ⌜ Within fcu d × (z ≤ d) ⌝ }
-    ensures { λ r. ⌜ r ≡ bears m fcu d z ⌝ }
+// q is M / (225 fcu), rounded up: M is borne at a Z just where Z (D - Z) is no less.
+fn least_product(m: u64, fcu: u64) -> u64
+    requires { ⌜ fcu ≤ sectionLimit ⌝ }
+    ensures { λ r. ⌜ r ≡ leastProduct m fcu ⌝ }
 {
-    (20 * z <= 19 * d) & (d <= 2 * z) & (m <= 225 * fcu * z * (d - z))
+    whole::rounded_up(m, 225 * fcu)
 }
 
-// Z, twice the lever arm: the greatest number that passes the three tests. By the first it is at most 0.95 D.
+// Z before its limit. The root is a whole number, and the last half millimetre is settled downwards.
+fn lever_by_root(m: u64, fcu: u64, d: u64) -> u64
+    requires { ⌜ Within fcu d ⌝ }
+    ensures { λ r. ⌜ (r ≡ unlimitedArm m fcu d) × (r ≤ d) ⌝ }
+{
+    // K / 0.9 is more than 0.25: there is no root. In the middle Z (D - Z) is greatest, and no Z bears M.
+    if 225 * fcu * (d * d / 4) < m {
+        return 0;
+    }
+    let root = whole::square_root(d * d - 4 * least_product(m, fcu));
+    whole::rounded_down(d + root, 2)
+}
+
+// Z. Where M is borne at 0.95 D, the root would give no less, and isn't worked out.
 pub fn lever_arm(m: u64, fcu: u64, d: u64) -> u64
     requires { ⌜ Within fcu d ⌝ }
     ensures { λ r. ⌜ (r ≡ leverArm m fcu d) × (r ≤ d) ⌝ }
 {
-    let mut z = 19 * d / 20;
-    while 0 < z {
-        if lever_bears(m, fcu, d, z) {
-            return z;
-        }
-        z = z - 1;
+    let limit = 19 * d / 20;
+    if 225 * fcu * limit * (d - limit) < m {
+        lever_by_root(m, fcu, d)
+    } else {
+        limit
     }
-    0
 }
 
 // The area that a moment needs at a lever arm.
