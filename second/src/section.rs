@@ -91,9 +91,24 @@ pub fn twice_depth(thickness: Whole, bars: &Reinforcement) -> Whole {
     2 * thickness - 2 * bars.cover - bars.bar
 }
 
+/// The greatest moment that the concrete alone can take, N mm.
+pub fn greatest_moment(d: Whole, fcu: Whole) -> Whole {
+    39 * fcu * d * d
+}
+
+/// The greatest moment for which Z may be twice the lever arm, N mm.
+pub fn moment_borne(z: Whole, d: Whole, fcu: Whole) -> Whole {
+    225 * fcu * z * (d - z)
+}
+
+/// The greatest Z whatever the moment, 0.95 of D rounded down, mm.
+pub fn greatest_arm(d: Whole) -> Whole {
+    down(19 * d, 20)
+}
+
 /// Whether the concrete alone can't take the moment.
 pub fn needs_compression_steel(moment: Whole, d: Whole, fcu: Whole) -> bool {
-    moment > 39 * fcu * d * d
+    moment > greatest_moment(d, fcu)
 }
 
 /// Z, twice the lever arm, mm; `None` where compression steel would be needed.
@@ -101,11 +116,10 @@ pub fn twice_lever_arm(moment: Whole, d: Whole, fcu: Whole) -> Option<Whole> {
     if needs_compression_steel(moment, d, fcu) {
         return None;
     }
-    let greatest = down(19 * d, 20);
     let least = up(d, 2);
-    (least..=greatest)
+    (least..=greatest_arm(d))
         .rev()
-        .find(|z| moment <= 225 * fcu * z * (d - z))
+        .find(|z| moment <= moment_borne(*z, d, fcu))
 }
 
 /// mm2 per metre for the moment, rounded up.

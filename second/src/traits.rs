@@ -4,7 +4,10 @@ use crate::answers::accept;
 use crate::bearing::{Bearing, Contact, GREATEST_PEAK};
 use crate::forces::{passive_depth, Totals};
 use crate::job_file::{Direction, Job, Load, Wall};
-use crate::section::{pressure_at, shear_passes, Section};
+use crate::rounding::{down, up};
+use crate::section::{
+    greatest_arm, greatest_moment, moment_borne, pressure_at, shear_passes, Section,
+};
 use crate::sheet_line::{work_wall, Worked};
 use crate::Whole;
 use std::collections::BTreeSet;
@@ -143,6 +146,16 @@ pub const VOCABULARY: &[&str] = &[
     "toe-shear-fcu-fails",
     "stem-shear-fcu-fails",
     "stem-shear-fcu-even",
+    // The lever arm where it turns, and the step that it hangs on.
+    "toe-arm-even",
+    "stem-arm-even",
+    "toe-arm-past-even",
+    "stem-arm-past-even",
+    "stem-arm-next-to-limit",
+    "stem-arm-by-quotient",
+    "stem-arm-by-root",
+    "stem-arm-by-half",
+    "stem-compression-even",
 ];
 
 /// One line: the answer's word first, then the rest in order of the alphabet.
@@ -430,6 +443,10 @@ fn toe_words(words: &mut Words, wall: &Wall, worked: &Worked) {
         "toe-arm-worked",
     ];
     steel_words(words, toe, names);
+    if let Some(arm) = Arm::shown(toe, wall.fcu) {
+        note(words, arm.is_even(), "toe-arm-even");
+        note(words, arm.is_past_even(), "toe-arm-past-even");
+    }
     let stress = wall.toe_bars.concrete_shear_stress;
     let (d, twice) = (toe.twice_depth, 2 * toe.effects.shear);
     note(words, toe.shear_fails, "toe-shear-fails");
@@ -449,6 +466,9 @@ fn stem_words(words: &mut Words, wall: &Wall, stem: &Section) {
         "stem-arm-worked",
     ];
     steel_words(words, stem, names);
+    if let Some(arm) = Arm::shown(stem, wall.fcu) {
+        stem_arm_words(words, &arm);
+    }
     let stress = wall.stem_bars.concrete_shear_stress;
     let (d, twice) = (stem.twice_depth, 2 * stem.effects.shear);
     note(words, stem.shear_fails, "stem-shear-fails");
@@ -470,5 +490,82 @@ fn steel_words(words: &mut Words, section: &Section, names: [&'static str; 7]) {
     };
     either(words, section.needed > section.least, needed, least);
     note(words, section.provided == section.required, even);
-    either(words, arm == 19 * section.twice_depth / 20, capped, worked);
+    either(
+        words,
+        arm == greatest_arm(section.twice_depth),
+        capped,
+        worked,
+    );
+}
+
+fn stem_arm_words(words: &mut Words, arm: &Arm) {
+    note(words, arm.is_even(), "stem-arm-even");
+    note(words, arm.is_past_even(), "stem-arm-past-even");
+    note(words, arm.is_next_to_limit(), "stem-arm-next-to-limit");
+    note(words, arm.hangs_on_quotient(), "stem-arm-by-quotient");
+    note(words, arm.hangs_on_root(), "stem-arm-by-root");
+    note(words, arm.hangs_on_half(), "stem-arm-by-half");
+    let most = greatest_moment(arm.d, arm.fcu);
+    note(words, arm.moment == most, "stem-compression-even");
+}
+
+/// A lever arm that shows in the printed area. By a whole-number root it is
+/// (D + root of D^2 - 4q) / 2 rounded down, q being M / (225 fcu) rounded up.
+struct Arm {
+    moment: Whole,
+    d: Whole,
+    fcu: Whole,
+    z: Whole,
+}
+
+impl Arm {
+    /// `None` where there is no arm, or the least steel governs.
+    fn shown(section: &Section, fcu: Whole) -> Option<Arm> {
+        let z = section
+            .lever_arm
+            .filter(|_| section.needed > section.least)?;
+        Some(Arm {
+            moment: section.effects.moment,
+            d: section.twice_depth,
+            fcu,
+            z,
+        })
+    }
+
+    /// Not a N mm more can be had at this arm.
+    fn is_even(&self) -> bool {
+        self.moment == moment_borne(self.z, self.d, self.fcu)
+    }
+
+    /// A N mm less would give an arm half a mm longer.
+    fn is_past_even(&self) -> bool {
+        self.is_below_limit() && self.moment - 1 == moment_borne(self.z + 1, self.d, self.fcu)
+    }
+
+    fn is_below_limit(&self) -> bool {
+        self.z < greatest_arm(self.d)
+    }
+
+    fn is_next_to_limit(&self) -> bool {
+        self.z + 1 == greatest_arm(self.d)
+    }
+
+    /// q rounded down would give a longer arm.
+    fn hangs_on_quotient(&self) -> bool {
+        let longer = self.z + 1;
+        self.is_below_limit() && down(self.moment, 225 * self.fcu) == longer * (self.d - longer)
+    }
+
+    /// A root one less would give a shorter arm: D and the root are both odd or
+    /// both even, and the root is 2Z - D.
+    fn hangs_on_root(&self) -> bool {
+        let square = self.d * self.d - 4 * up(self.moment, 225 * self.fcu);
+        let greater = 2 * self.z - self.d + 1;
+        square < greater * greater
+    }
+
+    /// D and the root, halved and rounded up, would give a longer arm.
+    fn hangs_on_half(&self) -> bool {
+        self.is_below_limit() && !self.hangs_on_root()
+    }
 }

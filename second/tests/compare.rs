@@ -3,11 +3,15 @@
 
 use second::answers::accept;
 use second::compare::{run, Found, Until, Wish};
-use second::generator::{numbered, KINDS};
+use second::generator::{numbered, samples, KINDS};
 use second::job_file::{field_in_range, read_numbers, Header, WALL_FIELDS};
 use second::office::{Office, Packed, Second, TEXT_ROOM};
-use second::sheet_line::{STEM_STEEL, TOE_STEEL};
+use second::rounding::{down, up};
+use second::section::{needed_steel, Section};
+use second::sheet_line::{work_job, LINE_NUMBERS, STEM_STEEL, TOE_STEEL};
+use second::traits::of;
 use second::writing::records;
+use second::Whole;
 use std::time::Duration;
 
 const JOBS: usize = 12 * KINDS.len();
@@ -38,6 +42,18 @@ faults! {
     LastNumber,
     NumberBehind,
     NumberAfterRefusal,
+    QuotientRoundedDown,
+    QuotientOneTooGreat,
+    RootOneTooSmall,
+    RootOfSquareTooSmall,
+    RootRoundedUp,
+    LowerRoot,
+    HalfRoundedUp,
+    HalvesRoundedApart,
+    LimitLeftOut,
+    LimitRoundedUp,
+    CompressionAtMost,
+    CompressionTooLate,
     PlaceOfLoad,
     PlaceOfLoadMultiplied,
     WallFromNought,
@@ -140,6 +156,43 @@ fn multiplied(answer: Packed) -> Packed {
     Packed((answer.number() << 32) | (100 * answer.place()))
 }
 
+/// Twice the lever arm by a whole-number root; a step of it may be wrong.
+fn arm_by_root(fault: Fault, moment: Whole, d: Whole, fcu: Whole) -> Option<Whole> {
+    let most = match fault {
+        CompressionAtMost => 39 * fcu * d * d - 1,
+        CompressionTooLate => 39 * fcu * d * d + 1,
+        _ => 39 * fcu * d * d,
+    };
+    if moment > most {
+        return None;
+    }
+    let quotient = match fault {
+        QuotientRoundedDown => down(moment, 225 * fcu),
+        QuotientOneTooGreat => down(moment, 225 * fcu) + 1,
+        _ => up(moment, 225 * fcu),
+    };
+    let square = d * d - 4 * quotient;
+    let root = match fault {
+        RootOneTooSmall => square.isqrt() - 1,
+        RootOfSquareTooSmall => (square - 1).isqrt(),
+        RootRoundedUp => (square - 1).isqrt() + 1,
+        LowerRoot => -square.isqrt(),
+        _ => square.isqrt(),
+    };
+    let arm = match fault {
+        HalfRoundedUp => up(d + root, 2),
+        HalvesRoundedApart => down(d, 2) + down(root, 2),
+        _ => down(d + root, 2),
+    };
+    let limit = match fault {
+        LimitLeftOut => d,
+        LimitRoundedUp => up(19 * d, 20),
+        _ => down(19 * d, 20),
+    };
+    // The lower root of a small moment may be 0, by which nothing is divided.
+    Some(arm.min(limit).max(1))
+}
+
 impl Office for Wrong {
     fn calculate(&self, job: &[u8], out: &mut [i64]) -> Packed {
         let numbers = numbers_of(job);
@@ -154,6 +207,7 @@ impl Office for Wrong {
             (OneTooFewTaken, 8) if out.len() == numbers - 1 => return Packed::WORKED,
             (TooShortTestedFirst, 1..) if out.is_empty() => return Packed(8 << 32),
             (Panic, 7) => panic!("a ninth load"),
+            (_, 0) => self.spoil_arms(job, out),
             (_, 4 | 10) => return self.spoil_header_refusal(answer, job, out),
             (_, 5) => return misplaced(self.0, answer, &read_numbers(&job[12..])),
             _ => {}
@@ -251,6 +305,27 @@ impl Office for Wrong {
 }
 
 impl Wrong {
+    /// Areas, and the failures that hang on them, as a wrong lever arm gives them.
+    fn spoil_arms(&self, job: &[u8], out: &mut [i64]) {
+        let job = accept(job).unwrap();
+        let lines = out.chunks_exact_mut(LINE_NUMBERS);
+        for ((wall, worked), line) in job.walls.iter().zip(work_job(&job)).zip(lines) {
+            let mut spoil = |section: &Section, place: usize, bit: u8| {
+                let moment = section.effects.moment;
+                let arm = arm_by_root(self.0, moment, section.twice_depth, wall.fcu);
+                let needed = arm.map(|z| needed_steel(moment, wall.fy, z));
+                let required = needed.map_or(0, |needed| needed.max(section.least));
+                line[place] = required as i64;
+                line[1] &= !i64::from(bit);
+                if arm.is_none() || section.provided < required {
+                    line[1] |= i64::from(bit);
+                }
+            };
+            worked.toe.iter().for_each(|toe| spoil(toe, 12, TOE_STEEL));
+            spoil(&worked.stem, 15, STEM_STEEL);
+        }
+    }
+
     /// A refusal of an offset or of the length made wrong.
     fn spoil_header_refusal(&self, answer: Packed, job: &[u8], out: &mut [i64]) -> Packed {
         let header = Header::read(job).unwrap();
@@ -404,6 +479,54 @@ fn every_fault_is_found() {
     }
 }
 
+/// So what is found of a wrong arm is due to its fault.
+#[test]
+fn an_arm_with_no_step_wrong_changes_nothing() {
+    let mut walls = 0;
+    for number in 0..JOBS {
+        let job = numbered(4, number).1.bytes;
+        let mut out = vec![0; numbers_of(&job)];
+        if Second.calculate(&job, &mut out) == Packed::WORKED {
+            let due = out.clone();
+            Wrong(LastNumber).spoil_arms(&job, &mut out);
+            assert_eq!(out, due);
+            walls += out.len() / LINE_NUMBERS;
+        }
+    }
+    assert!(walls > 500, "{walls}");
+}
+
+/// Where the stem's needed steel governs, a word of its arm stands just where the
+/// fault shows in the area.
+#[test]
+fn words_of_the_arm_stand_where_its_faults_show() {
+    let pairs = [
+        (QuotientRoundedDown, "stem-arm-by-quotient"),
+        (QuotientOneTooGreat, "stem-arm-even"),
+        (RootOneTooSmall, "stem-arm-by-root"),
+        (HalfRoundedUp, "stem-arm-by-half"),
+        (CompressionAtMost, "stem-compression-even"),
+    ];
+    let stem_area = |office: &dyn Office, job: &[u8]| {
+        let mut line = [0; LINE_NUMBERS];
+        office.calculate(job, &mut line);
+        line[15]
+    };
+    let mut shown = [0; 5];
+    for (name, sample) in samples(4, 3 * JOBS) {
+        let (job, words) = (&sample.bytes, of(&sample.bytes).1);
+        if !words.contains("one-wall") || !words.contains("stem-steel-needed") {
+            continue;
+        }
+        for ((fault, word), shown) in pairs.iter().zip(&mut shown) {
+            let shows = stem_area(&Wrong(*fault), job) != stem_area(&Second, job);
+            assert_eq!(shows, words.contains(word), "{name}: {fault:?}");
+            *shown += usize::from(shows);
+        }
+    }
+    assert!(shown.iter().all(|count| *count >= 3), "{shown:?}");
+}
+
 #[test]
 fn what_differs_is_said() {
     let said = |fault| found(&Wrong(fault), 1).map_or(String::new(), |found| found.what);
@@ -448,7 +571,7 @@ fn what_differs_in_writing_is_said() {
     let words = said(LastRecordLeftOut);
     assert!(words.starts_with(&format!("{own}place 404 of what was lent")));
     let words = said(WallOf32Numbers);
-    assert!(words.contains("one wall of 32 numbers), 296 bytes lent: the answer is (number 6"));
+    assert!(words.contains("one wall of 32 numbers), 176 bytes lent: the answer is (number 6"));
     let words = said(NumberBehindLoads);
     assert!(words.starts_with("records, "), "{words}");
     assert!(

@@ -6,7 +6,10 @@ use common::{accepted_jobs, case_a, case_a_bytes, case_a_draft, CASE_A_LINE};
 use second::bearing::{block, Bearing, Case, Contact, Fraction};
 use second::forces::{passive_depth, passive_force, pushes};
 use second::job_file::field;
-use second::section::{needed_steel, provided_steel, shear_passes, twice_lever_arm};
+use second::rounding::{down, up};
+use second::section::{
+    needed_steel, needs_compression_steel, provided_steel, shear_passes, twice_lever_arm,
+};
 use second::sheet_line::{work_job, NO_SERVICE_BLOCK, OVER_ALLOWABLE, SHEAR, TOE_STEEL};
 use second::Whole;
 
@@ -204,4 +207,48 @@ fn the_lever_arm_is_the_greatest_within_its_limits() {
         }
     }
     assert!(arms > 100);
+}
+
+/// Z by a whole-number root. M <= 225 fcu Z (D - Z) is (2Z - D)^2 <= D^2 - 4q, q
+/// being M / (225 fcu) rounded up; so 2Z - D is the root, or one less.
+fn arm_by_root(moment: Whole, d: Whole, fcu: Whole) -> Option<Whole> {
+    let q = match moment {
+        0 => 0,
+        _ => up(moment, 225 * fcu),
+    };
+    let root = (d * d - 4 * q).checked_isqrt()?;
+    let z = down(d + root, 2).min(down(19 * d, 20));
+    // Nothing lies between half of D and 0.95 of it where D is 1.
+    (2 * z >= d).then_some(z)
+}
+
+/// Moments at which Z turns, and a N mm to either side of them.
+fn moments_at_turns(d: Whole, fcu: Whole) -> impl Iterator<Item = Whole> {
+    let turns = (0..=d).map(move |z| 225 * fcu * z * (d - z));
+    turns
+        .chain([39 * fcu * d * d])
+        .flat_map(|turn| [turn - 1, turn, turn + 1])
+        .filter(|moment| *moment >= 0)
+}
+
+#[test]
+fn the_lever_arm_is_that_of_a_whole_number_root() {
+    let (mut arms, mut none) = (0, 0);
+    for d in 0..=130 {
+        for fcu in [0, 1, 25, 35, 40, 60] {
+            for moment in moments_at_turns(d, fcu) {
+                let arm = twice_lever_arm(moment, d, fcu);
+                if needs_compression_steel(moment, d, fcu) {
+                    assert_eq!(arm, None);
+                    none += 1;
+                    continue;
+                }
+                let by_root = arm_by_root(moment, d, fcu);
+                assert_eq!(arm, by_root, "M {moment}, D {d}, fcu {fcu}");
+                assert_eq!(arm.is_none(), d == 1);
+                arms += 1;
+            }
+        }
+    }
+    assert!(arms > 50_000 && none > 50_000, "{arms} and {none}");
 }

@@ -3,11 +3,14 @@
 mod common;
 
 use common::{samples_of_each_kind, SEED};
+use second::answers::accept;
 use second::generator::draft::ends;
 use second::generator::{sample, samples, Due, KINDS};
 use second::job_file::{
     field_in_range, read_record, Header, RawWall, HEADER_BYTES, WALL_BYTES, WALL_FIELDS,
 };
+use second::section::greatest_moment;
+use second::sheet_line::work_wall;
 use second::traits::{line, of, VOCABULARY};
 use std::collections::{BTreeMap, BTreeSet};
 
@@ -31,7 +34,7 @@ fn the_bytes_of_a_seed_stay_what_they_were() {
             sum = (sum ^ u64::from(byte)).wrapping_mul(0x0100_0000_01b3);
         }
     }
-    assert_eq!(sum, 0xba1e_c90c_91f2_06fb);
+    assert_eq!(sum, 0x6bb3_cf00_94dd_86f5);
 }
 
 #[test]
@@ -147,6 +150,46 @@ fn offsets_and_lengths_are_wrong_in_every_way() {
     }
     assert_eq!(met.len(), 7);
     assert!(!met.contains(&(true, true, true)));
+}
+
+/// The words of each turn of `lever-arm`.
+const ARM_TURNS: [&[&str]; 12] = [
+    &["stem-arm-even", "stem-arm-worked", "stem-arm-by-root"],
+    &["stem-arm-even", "stem-arm-worked", "stem-arm-by-root"],
+    &["stem-arm-past-even", "stem-arm-by-quotient"],
+    &["stem-arm-past-even", "stem-arm-by-quotient"],
+    &["stem-arm-even", "stem-arm-capped", "stem-arm-by-root"],
+    &["stem-arm-past-even", "stem-arm-next-to-limit"],
+    &["stem-compression-even", "stem-arm-worked"],
+    &["stem-compression-steel"],
+    &["stem-arm-by-half"],
+    &["stem-arm-by-root"],
+    &["toe-arm-even"],
+    &["toe-arm-past-even"],
+];
+
+#[test]
+fn a_lever_arm_turns_in_every_way_at_odd_and_even_depths() {
+    for index in 0..4 * ARM_TURNS.len() {
+        let (round, turn) = (index / ARM_TURNS.len(), index % ARM_TURNS.len());
+        let bytes = sample(SEED, kind("lever-arm"), index).bytes;
+        let words = of(&bytes).1;
+        let met = ARM_TURNS[turn].iter().all(|word| words.contains(word));
+        assert!(met, "lever-arm of index {index}");
+        let job = accept(&bytes).unwrap();
+        let worked = work_wall(1, &job.walls[0], &job.loads);
+        let section = if turn < 10 {
+            worked.stem
+        } else {
+            worked.toe.unwrap()
+        };
+        let d = section.twice_depth;
+        assert_eq!(d % 2 == 1, (index + round) % 2 == 1);
+        if turn == 7 {
+            let most = greatest_moment(d, job.walls[0].fcu);
+            assert_eq!(section.effects.moment, most + 1);
+        }
+    }
 }
 
 #[test]

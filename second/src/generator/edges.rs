@@ -9,7 +9,8 @@ use crate::section::Section;
 use crate::sheet_line::{work_wall, Worked};
 use crate::Whole;
 
-const MOST_TRIES: usize = 500;
+/// Walls tried before one is taken as it is.
+pub const MOST_TRIES: usize = 500;
 
 type Edge = fn(&mut Random) -> Option<Draft>;
 
@@ -61,7 +62,7 @@ pub fn edges(random: &mut Random, index: usize) -> Sample {
     }
 }
 
-fn worked(draft: &Draft) -> Worked {
+pub fn worked(draft: &Draft) -> Worked {
     let job = draft.job();
     work_wall(1, &job.walls[0], &job.loads)
 }
@@ -124,7 +125,7 @@ fn coarse_height(random: &mut Random, draft: &Draft) -> u32 {
     random.between(top / 2, top)
 }
 
-fn force(newtons: Whole) -> Option<u32> {
+pub fn force(newtons: Whole) -> Option<u32> {
     u32::try_from(newtons).ok().filter(|n| *n <= MOST_LOAD)
 }
 

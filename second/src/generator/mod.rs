@@ -2,6 +2,7 @@
 
 pub mod draft;
 mod edges;
+mod lever_arm;
 mod raw;
 mod refused;
 mod seek;
@@ -32,7 +33,7 @@ pub type Maker = fn(&mut Random, usize) -> Sample;
 
 /// A kind's place is part of its seed, so that a new one comes last and leaves the
 /// jobs of the others as they were.
-pub const KINDS: [(&str, Maker); 28] = [
+pub const KINDS: [(&str, Maker); 29] = [
     ("typical", valid::typical),
     ("wide", valid::wide),
     ("field-ends", valid::field_ends),
@@ -61,6 +62,7 @@ pub const KINDS: [(&str, Maker); 28] = [
     ("mangled", raw::mangled),
     ("raw", raw::raw),
     ("refused-field", refused::one_field),
+    ("lever-arm", lever_arm::lever_arm),
 ];
 
 /// The sample of a seed, a place in [`KINDS`] and an index from 0.
