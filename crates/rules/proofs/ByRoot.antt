@@ -14,7 +14,7 @@ use lib.Dec.{T, leb, ltb}
 use lib.Ieee.Bits.{is-true}
 use Rattle.whole.specs.Rounding.{roundedUp}
 use Rattle.whole.proofs.Rounded.{up-enough, up-least}
-use Rattle.whole.proofs.Root.{IsRoot, square-less, root-greatest}
+use Rattle.whole.proofs.Root.{IsRoot, square-less, root-greatest, root-exists}
 use Rattle.rules.specs.Forces.{squared}
 use Rattle.rules.specs.ToeAndStem.{bears, greatest, leverArm}
 use Rattle.rules.proofs.Lever.{tested, passes, found, greatest-is, greatest-only}
@@ -186,7 +186,7 @@ module _ (M fcu D : ℕ) where
       at : M ≤ 225 * fcu * limit D * (D - limit D) → leverArm M fcu D ≡ min (unlimitedArm M fcu D) (limit D)
       at h = at-limit h ∙ sym (min-eq-right (no-less h))
 
--- ---- the theorem: whatever the moment, the strength and the depth
+-- ---- the theorem: whatever the moment, the strength and the depth, the way by the root gives Z, and there is a root
 
 pub by-root : (M fcu D root : ℕ) → IsRoot (underRoot M fcu D) root → leverArm M fcu D ≡ min (byRoot M fcu D root) (limit D)
 by-root M fcu D root is = rw (← go (isImpossible M fcu D) refl) (limited M fcu D)
@@ -194,6 +194,9 @@ by-root M fcu D root is = rw (← go (isImpossible M fcu D) refl) (limited M fcu
     go : (b : Bool) → isImpossible M fcu D ≡ b → unlimitedArm M fcu D ≡ cond b 0 ((D + root) / 2)
     go true e = impossible M fcu D (omega (arith, ltb-true, e))
     go false e = upper M fcu D (omega (arith, ltb-false, e)) root is
+
+pub always : (M fcu D : ℕ) → (root : ℕ) × IsRoot (underRoot M fcu D) root × (leverArm M fcu D ≡ min (byRoot M fcu D root) (limit D))
+always M fcu D = let found = root-exists (underRoot M fcu D) in (found .0, found .1, by-root M fcu D (found .0) (found .1))
 
 -- ---- as it is worked by hand: P2, where D and the root are even together, and P9, where a half millimetre is left
 

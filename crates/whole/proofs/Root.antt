@@ -35,6 +35,14 @@ root-greatest {n} {r} {x} is h = let l = square-less {x = x} {y = r + 1} (omega 
 pub root-only : (n : ℕ) {r s : ℕ} → IsRoot n r → IsRoot n s → r ≡ s
 root-only n is its = omega (arith, root-greatest is (its .0), root-greatest its (is .0))
 
+-- and every number has one
+pub root-exists : (n : ℕ) → (r : ℕ) × IsRoot n r
+root-exists zero = (0, omega arith)
+root-exists (suc n) = go (root-exists n)
+  where
+    go : (r : ℕ) × IsRoot n r → (r : ℕ) × IsRoot (suc n) r
+    go (r, is) = dite (decLt (suc n) ((r + 1) * (r + 1))) (λ h. (r, omega arith)) (λ h. (r + 1, omega arith))
+
 -- ---- Newton's step
 
 -- g is within k of the root of n
