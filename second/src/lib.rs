@@ -19,18 +19,22 @@ pub mod random;
 pub mod rounding;
 pub mod section;
 pub mod sheet_line;
+pub mod toe;
 pub mod traits;
+pub mod wide;
 pub mod writing;
 
 use answers::{Refusal, BUFFER_TOO_SHORT};
 use sheet_line::LINE_NUMBERS;
 
-/// The whole numbers of every rule.
+/// The whole numbers of every rule. Only [`wide`] has longer ones, in products of its
+/// own.
 #[cfg(not(feature = "narrow"))]
 pub type Whole = i128;
 
-/// Half as wide, to see what that saves. Every product in an accepted sheet fits:
-/// the greatest, 800 R^2 where a factored triangle is scaled, is below 2^63.
+/// Half as wide, to see what that saves. In an accepted sheet every product fits
+/// that isn't worked in [`wide`]: the greatest, 800 R^2 where a factored triangle is
+/// scaled, is below 2^63.
 #[cfg(feature = "narrow")]
 pub type Whole = i64;
 

@@ -61,13 +61,7 @@ impl Stock {
 fn draft(walls: &[(RawWall, Vec<RawLoad>)]) -> Draft {
     let mut draft = Draft::default();
     for (wall, loads) in walls {
-        draft.walls.push(*wall);
-        let number = draft.walls.len() as u32;
-        draft.loads.extend(loads.iter().map(|load| {
-            let mut load = *load;
-            load[0] = number;
-            load
-        }));
+        draft.add(*wall, loads);
     }
     draft
 }

@@ -1,39 +1,14 @@
-//! Document 01, "Toe and stem": shear, moment, steel and the shear check.
+//! Document 01, "Toe and stem": shear, moment, steel and the shear check. What the
+//! ground bears under the toe is worked in [`toe`](crate::toe).
 //!
 //! V in N and M in N mm, both per metre run.
 
-use crate::bearing::{Contact, Reported};
+use crate::bearing::Reported;
 use crate::forces::{load_components, pushes, Action, Component};
 use crate::job_file::{Direction, Load, Reinforcement, Wall, BARS};
 use crate::rounding::{down, up};
+use crate::toe::{borne, twice_middle};
 use crate::Whole;
-
-/// N/m2 under the base at a point, rounded up to a whole number before any use.
-/// Reading taken: a whole block's line joins its exact ends, but a triangle
-/// scales its reported, already rounded, peak by its exact contact. The point is given as twice its
-/// distance from the toe, as half the stem may end on half a mm.
-pub fn pressure_at(bearing: &Reported, l: Whole, twice_s: Whole) -> Whole {
-    let Reported { block, case, .. } = bearing;
-    let contact = block.contact;
-    // Twice the contact, and twice the distance into it from its zero end,
-    // both times the lower number of the contact's fraction.
-    let reach = 2 * contact.over;
-    match block.kind {
-        Contact::Whole => {
-            // Both ends of a whole block stand over l^2.
-            let line = block.toe.over * (2 * l - twice_s) + block.heel.over * twice_s;
-            up(case.pascals() * line, 2 * l * block.toe.under)
-        }
-        Contact::ToeTriangle => {
-            let into = reach - contact.under * twice_s;
-            up(bearing.toe * into.max(0), reach)
-        }
-        Contact::HeelTriangle => {
-            let into = reach - contact.under * (2 * l - twice_s);
-            up(bearing.heel * into.max(0), reach)
-        }
-    }
-}
 
 /// Shear and moment of a part.
 #[derive(Clone, Copy, Debug, PartialEq, Eq)]
@@ -43,21 +18,16 @@ pub struct Effects {
 }
 
 /// The toe under a factored block, its own weight (1.4 times) taken off. The
-/// weight is worked from the slab itself, not from the rounded base weight.
+/// weight is worked from the slab itself, not from the rounded base weight, and
+/// over all of the toe, however little of it bears.
 pub fn toe_effects(wall: &Wall, bearing: &Reported) -> Effects {
-    let l = wall.base_length();
-    // 2a, a being the distance from the toe to the middle of the stem.
-    let twice_a = 2 * wall.toe + wall.stem_thickness;
-    let at_end = pressure_at(bearing, l, 0);
-    let at_face = pressure_at(bearing, l, 2 * wall.toe);
-    let at_middle = pressure_at(bearing, l, twice_a);
-    // 14 tenths x (10 N/m3) x mm = 14/1000 N/m2.
+    let borne = borne(wall, bearing);
+    let twice_a = twice_middle(wall);
+    // 14 tenths x (10 N/m3) x mm = 14/1000 N/m2, and (N/m2) x mm = N/1000.
     let slab = 14 * wall.base_density * wall.base_thickness;
-    // (N/m2) x mm = N/1000, halved; the slab another 1000.
-    let shear = up((at_end + at_face) * wall.toe, 2000) - down(slab * wall.toe, 1_000_000);
-    // (N/m2) x mm2 = N mm/1000; a sixth of a^2 is (2a)^2/24, a half (2a)^2/8.
-    let square = twice_a * twice_a;
-    let moment = up((2 * at_end + at_middle) * square, 24_000) - down(slab * square, 8_000_000);
+    let shear = borne.shear - down(slab * wall.toe, 1_000_000);
+    // A half of a^2 is (2a)^2/8.
+    let moment = borne.moment - down(slab * twice_a * twice_a, 8_000_000);
     Effects {
         shear: shear.max(0),
         moment: moment.max(0),

@@ -1,14 +1,13 @@
 //! What a job touches, in stable words, for counting coverage.
 
 use crate::answers::accept;
-use crate::bearing::{Bearing, Contact, GREATEST_PEAK};
+use crate::bearing::{Bearing, Contact, Reported, GREATEST_PEAK};
 use crate::forces::{passive_depth, Totals};
 use crate::job_file::{Direction, Job, Load, Wall};
 use crate::rounding::{down, up};
-use crate::section::{
-    greatest_arm, greatest_moment, moment_borne, pressure_at, shear_passes, Section,
-};
+use crate::section::{greatest_arm, greatest_moment, moment_borne, shear_passes, Section};
 use crate::sheet_line::{work_wall, Worked};
+use crate::toe::{rounding_at_face_shows, Tip};
 use crate::Whole;
 use std::collections::BTreeSet;
 
@@ -124,7 +123,6 @@ pub const VOCABULARY: &[&str] = &[
     "toe-unchecked-no-block",
     "toe-shear-0",
     "toe-moment-0",
-    "toe-past-contact",
     "toe-compression-steel",
     "stem-compression-steel",
     "toe-steel-least",
@@ -156,6 +154,18 @@ pub const VOCABULARY: &[&str] = &[
     "stem-arm-by-root",
     "stem-arm-by-half",
     "stem-compression-even",
+    // Where the factored triangle over a toe comes to nothing.
+    "toe-block-ends-before-face",
+    "toe-block-ends-at-face",
+    "toe-block-ends-before-middle",
+    "toe-block-ends-at-middle",
+    "toe-block-ends-past-middle",
+    "toe-rounding-at-middle",
+    "heel-block-starts-before-face",
+    "heel-block-starts-at-face",
+    "heel-block-starts-before-middle",
+    "heel-block-starts-at-middle",
+    "heel-block-starts-past-middle",
 ];
 
 /// One line: the answer's word first, then the rest in order of the alphabet.
@@ -430,9 +440,7 @@ fn toe_words(words: &mut Words, wall: &Wall, worked: &Worked) {
     };
     note(words, toe.effects.shear == 0, "toe-shear-0");
     note(words, toe.effects.moment == 0, "toe-moment-0");
-    let middle = 2 * wall.toe + wall.stem_thickness;
-    let past = pressure_at(bearing, wall.base_length(), middle) == 0;
-    note(words, past && bearing.toe > 0, "toe-past-contact");
+    tip_words(words, wall, bearing);
     let names = [
         "toe-compression-steel",
         "toe-steel-least",
@@ -453,6 +461,35 @@ fn toe_words(words: &mut Words, wall: &Wall, worked: &Worked) {
     note(words, twice == stress * d, "toe-shear-even");
     let by_fcu = twice < stress * d && !shear_passes(toe.effects.shear, d, stress, wall.fcu);
     note(words, by_fcu, "toe-shear-fcu-fails");
+}
+
+const TOE_BLOCK_ENDS: [&str; 5] = [
+    "toe-block-ends-before-face",
+    "toe-block-ends-at-face",
+    "toe-block-ends-before-middle",
+    "toe-block-ends-at-middle",
+    "toe-block-ends-past-middle",
+];
+const HEEL_BLOCK_STARTS: [&str; 5] = [
+    "heel-block-starts-before-face",
+    "heel-block-starts-at-face",
+    "heel-block-starts-before-middle",
+    "heel-block-starts-at-middle",
+    "heel-block-starts-past-middle",
+];
+
+/// The words of the block under a toe, in the order of [`Tip`].
+fn tip_words(words: &mut Words, wall: &Wall, bearing: &Reported) {
+    let Some(tip) = Tip::of(wall, bearing) else {
+        return;
+    };
+    words.push(match bearing.block.kind {
+        Contact::HeelTriangle => HEEL_BLOCK_STARTS[tip as usize],
+        _ => TOE_BLOCK_ENDS[tip as usize],
+    });
+    let at_middle = bearing.block.kind == Contact::ToeTriangle && tip == Tip::AtMiddle;
+    let rounded = at_middle && rounding_at_face_shows(wall, bearing);
+    note(words, rounded, "toe-rounding-at-middle");
 }
 
 fn stem_words(words: &mut Words, wall: &Wall, stem: &Section) {

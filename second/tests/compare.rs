@@ -1,15 +1,20 @@
 //! The comparison finds nothing where nothing differs, and every fault that is
 //! put into the answers.
 
+mod common;
+
+use common::borne_by_line;
 use second::answers::accept;
+use second::bearing::{Contact, Reported};
 use second::compare::{run, Found, Until, Wish};
 use second::generator::{numbered, samples, KINDS};
-use second::job_file::{field_in_range, read_numbers, Header, WALL_FIELDS};
+use second::job_file::{field_in_range, read_numbers, Header, Wall, WALL_FIELDS};
 use second::office::{Office, Packed, Second, TEXT_ROOM};
 use second::rounding::{down, up};
-use second::section::{needed_steel, Section};
-use second::sheet_line::{work_job, LINE_NUMBERS, STEM_STEEL, TOE_STEEL};
+use second::section::{check_section, needed_steel, shear_passes, Effects, Section};
+use second::sheet_line::{work_job, Worked, LINE_NUMBERS, SHEAR, STEM_STEEL, TOE_STEEL};
 use second::traits::of;
+use second::wide::quotient_up;
 use second::writing::records;
 use second::Whole;
 use std::time::Duration;
@@ -54,6 +59,24 @@ faults! {
     LimitRoundedUp,
     CompressionAtMost,
     CompressionTooLate,
+    ContactAgainstFace,
+    EndAtMiddleAsShort,
+    LongAsShort,
+    ShortByLine,
+    HeelByLine,
+    WholeTriangleInShear,
+    ThirdLeftOut,
+    HalfForThird,
+    MomentAboutFace,
+    HeelFromToe,
+    NegativeSquared,
+    HeelUnderToeAlone,
+    RoundedUnderFace,
+    RoundedContact,
+    MomentOfRoundedShear,
+    BearingRoundedDown,
+    ExactPeak,
+    WeightUnderContactAlone,
     PlaceOfLoad,
     PlaceOfLoadMultiplied,
     WallFromNought,
@@ -193,6 +216,162 @@ fn arm_by_root(fault: Fault, moment: Whole, d: Whole, fcu: Whole) -> Option<Whol
     Some(arm.min(limit).max(1))
 }
 
+/// A triangle under a toe, with which something may be wrong. Lengths are in parts of
+/// a mm of which the contact and half a mm are whole numbers.
+struct Triangle {
+    fault: Fault,
+    /// N/m2, over another number.
+    peak: (Whole, Whole),
+    contact: Whole,
+    /// From the toe.
+    tip: Whole,
+    face: Whole,
+    middle: Whole,
+    parts: Whole,
+}
+
+impl Triangle {
+    fn of(fault: Fault, wall: &Wall, bearing: &Reported) -> Triangle {
+        let block = &bearing.block;
+        let heel = block.kind == Contact::HeelTriangle;
+        let exact = if heel { block.heel } else { block.toe };
+        let parts = 2 * block.contact.under;
+        let contact = match fault {
+            RoundedContact => parts * up(block.contact.over, block.contact.under),
+            _ => 2 * block.contact.over,
+        };
+        Triangle {
+            fault,
+            peak: match fault {
+                ExactPeak => (bearing.case.pascals() * exact.over, exact.under),
+                _ => (bearing.peak(), 1),
+            },
+            contact,
+            tip: match (heel, fault) {
+                (true, HeelFromToe) | (false, _) => contact,
+                (true, _) => parts * wall.base_length() - contact,
+            },
+            face: parts * wall.toe,
+            middle: block.contact.under * (2 * wall.toe + wall.stem_thickness),
+            parts,
+        }
+    }
+
+    /// Whether document 01's formula isn't the one for a toe triangle.
+    fn ends_short(&self) -> bool {
+        match self.fault {
+            ContactAgainstFace => self.contact < self.face,
+            EndAtMiddleAsShort => self.contact <= self.middle,
+            LongAsShort => true,
+            ShortByLine => false,
+            _ => self.contact < self.middle,
+        }
+    }
+
+    /// The peak times some lengths over others, which leave one length or two.
+    fn borne(&self, over: &[Whole], under: &[Whole]) -> Whole {
+        let (peak, by) = self.peak;
+        let lengths = over.len() - under.len() + 1;
+        let over = [&[peak], over].concat();
+        let under = [under, &[by, 1000], &[self.parts; 2][..lengths]].concat();
+        let quotient = quotient_up(&over, &under);
+        // What was rounded up, if anything was, times the lower number is more than the
+        // upper one. Of a quotient of 1 that is taken for granted.
+        let is_rounded = || quotient_up(&[&under[..], &[quotient]].concat(), &over) > 1;
+        match self.fault {
+            BearingRoundedDown if quotient == 1 || quotient > 1 && is_rounded() => quotient - 1,
+            _ => quotient,
+        }
+    }
+
+    fn at_toe(&self) -> Effects {
+        let (c, a) = (self.contact, self.middle);
+        let loaded = match self.fault {
+            WholeTriangleInShear => c,
+            _ => c.min(self.face),
+        };
+        let shear = self.borne(&[loaded, 2 * c - loaded], &[2, c]);
+        let six_arms = match self.fault {
+            ThirdLeftOut => 6 * a,
+            HalfForThird => 6 * a - 3 * c,
+            MomentAboutFace => (6 * self.face - 2 * c).max(0),
+            // Below 0 only of a contact past the middle, for which it isn't meant.
+            _ => (6 * a - 2 * c).max(0),
+        };
+        let moment = self.borne(&[c, six_arms], &[12]);
+        match self.fault {
+            RoundedUnderFace => Effects {
+                shear: self.shear_of_rounded(loaded),
+                moment,
+            },
+            MomentOfRoundedShear => Effects {
+                shear,
+                moment: quotient_up(&[self.borne(&[c], &[2]), six_arms], &[6, self.parts]),
+            },
+            _ => Effects { shear, moment },
+        }
+    }
+
+    /// By the pressure at the end of the loaded part, rounded up before its use.
+    fn shear_of_rounded(&self, loaded: Whole) -> Whole {
+        let (peak, _) = self.peak;
+        let at_end = quotient_up(&[peak, self.contact - loaded], &[self.contact]);
+        quotient_up(&[peak + at_end, loaded], &[2000, self.parts])
+    }
+
+    fn at_heel(&self) -> Effects {
+        let c = self.contact;
+        let to_face = match self.fault {
+            NegativeSquared => (self.face - self.tip).abs(),
+            _ => (self.face - self.tip).max(0),
+        };
+        let to_middle = (self.middle - self.tip).max(0);
+        let six_arms = 6 * (self.middle - self.face) + 2 * to_face;
+        Effects {
+            shear: self.borne(&[to_face, to_face], &[2, c]),
+            moment: match self.fault {
+                HeelUnderToeAlone => self.borne(&[to_face, to_face, six_arms], &[12, c]),
+                _ => self.borne(&[to_middle, to_middle, to_middle], &[6, c]),
+            },
+        }
+    }
+}
+
+/// V and M of a toe, worked once more; a step may be wrong.
+fn effects_on_toe(fault: Fault, wall: &Wall, bearing: &Reported) -> Effects {
+    let triangle = Triangle::of(fault, wall, bearing);
+    let borne = match bearing.block.kind {
+        Contact::HeelTriangle if fault != HeelByLine => triangle.at_heel(),
+        Contact::ToeTriangle if triangle.ends_short() => triangle.at_toe(),
+        _ => borne_by_line(wall, bearing),
+    };
+    let slab = 14 * wall.base_density * wall.base_thickness;
+    let twice_a = 2 * wall.toe + wall.stem_thickness;
+    let weighed = match fault {
+        WeightUnderContactAlone => wall.toe.min(down(triangle.contact, triangle.parts)),
+        _ => wall.toe,
+    };
+    let weight = down(slab * weighed, 1_000_000);
+    let its_moment = down(slab * twice_a * twice_a, 8_000_000);
+    Effects {
+        shear: (borne.shear - weight).max(0),
+        moment: (borne.moment - its_moment).max(0),
+    }
+}
+
+/// The toe with these effects, where there is one to check.
+fn toe_checked(fault: Fault, wall: &Wall, worked: &Worked) -> Option<Section> {
+    worked.toe?;
+    let bearing = worked.factored_bearing.given()?;
+    let effects = effects_on_toe(fault, wall, bearing);
+    Some(check_section(
+        wall,
+        wall.base_thickness,
+        &wall.toe_bars,
+        effects,
+    ))
+}
+
 impl Office for Wrong {
     fn calculate(&self, job: &[u8], out: &mut [i64]) -> Packed {
         let numbers = numbers_of(job);
@@ -207,7 +386,7 @@ impl Office for Wrong {
             (OneTooFewTaken, 8) if out.len() == numbers - 1 => return Packed::WORKED,
             (TooShortTestedFirst, 1..) if out.is_empty() => return Packed(8 << 32),
             (Panic, 7) => panic!("a ninth load"),
-            (_, 0) => self.spoil_arms(job, out),
+            (_, 0) => self.spoil_sections(job, out),
             (_, 4 | 10) => return self.spoil_header_refusal(answer, job, out),
             (_, 5) => return misplaced(self.0, answer, &read_numbers(&job[12..])),
             _ => {}
@@ -305,24 +484,44 @@ impl Office for Wrong {
 }
 
 impl Wrong {
-    /// Areas, and the failures that hang on them, as a wrong lever arm gives them.
-    fn spoil_arms(&self, job: &[u8], out: &mut [i64]) {
+    /// The toe's V and M, both areas, and the failures that hang on them, as a wrong
+    /// bearing or a wrong lever arm gives them.
+    fn spoil_sections(&self, job: &[u8], out: &mut [i64]) {
         let job = accept(job).unwrap();
         let lines = out.chunks_exact_mut(LINE_NUMBERS);
         for ((wall, worked), line) in job.walls.iter().zip(work_job(&job)).zip(lines) {
-            let mut spoil = |section: &Section, place: usize, bit: u8| {
-                let moment = section.effects.moment;
-                let arm = arm_by_root(self.0, moment, section.twice_depth, wall.fcu);
-                let needed = arm.map(|z| needed_steel(moment, wall.fy, z));
-                let required = needed.map_or(0, |needed| needed.max(section.least));
-                line[place] = required as i64;
-                line[1] &= !i64::from(bit);
-                if arm.is_none() || section.provided < required {
-                    line[1] |= i64::from(bit);
-                }
-            };
-            worked.toe.iter().for_each(|toe| spoil(toe, 12, TOE_STEEL));
-            spoil(&worked.stem, 15, STEM_STEEL);
+            line[1] &= !i64::from(TOE_STEEL | STEM_STEEL | SHEAR);
+            if let Some(toe) = toe_checked(self.0, wall, &worked) {
+                line[10] = toe.effects.shear as i64;
+                line[11] = toe.effects.moment as i64;
+                let stress = wall.toe_bars.concrete_shear_stress;
+                self.spoil_section(wall, &toe, stress, &mut line[1..=12], TOE_STEEL);
+            }
+            let stress = wall.stem_bars.concrete_shear_stress;
+            self.spoil_section(wall, &worked.stem, stress, &mut line[1..], STEM_STEEL);
+        }
+    }
+
+    /// From the failures to the area of one section.
+    fn spoil_section(
+        &self,
+        wall: &Wall,
+        section: &Section,
+        stress: Whole,
+        line: &mut [i64],
+        steel: u8,
+    ) {
+        let Effects { shear, moment } = section.effects;
+        let d = section.twice_depth;
+        let arm = arm_by_root(self.0, moment, d, wall.fcu);
+        let needed = arm.map(|z| needed_steel(moment, wall.fy, z));
+        let required = needed.map_or(0, |needed| needed.max(section.least));
+        line[line.len() - 1] = required as i64;
+        if arm.is_none() || section.provided < required {
+            line[0] |= i64::from(steel);
+        }
+        if !shear_passes(shear, d, stress, wall.fcu) {
+            line[0] |= i64::from(SHEAR);
         }
     }
 
@@ -468,6 +667,9 @@ fn nothing_differs_from_itself() {
     assert!(table.contains(&format!("| calls of text | {} |", 2 * JOBS)));
     assert!(table.contains("| calls of records | taken apart "));
     assert!(table.contains("| calls of write | written "));
+    assert!(table.contains("| toe block's end, in toes | before the face "));
+    let none = table.contains(" face 0,") || table.contains(" middle 0");
+    assert!(!none, "{table}");
 }
 
 #[test]
@@ -479,16 +681,16 @@ fn every_fault_is_found() {
     }
 }
 
-/// So what is found of a wrong arm is due to its fault.
+/// So what is found of a wrong arm, or of a wrong bearing, is due to its fault.
 #[test]
-fn an_arm_with_no_step_wrong_changes_nothing() {
+fn sections_with_no_step_wrong_change_nothing() {
     let mut walls = 0;
     for number in 0..JOBS {
         let job = numbered(4, number).1.bytes;
         let mut out = vec![0; numbers_of(&job)];
         if Second.calculate(&job, &mut out) == Packed::WORKED {
             let due = out.clone();
-            Wrong(LastNumber).spoil_arms(&job, &mut out);
+            Wrong(LastNumber).spoil_sections(&job, &mut out);
             assert_eq!(out, due);
             walls += out.len() / LINE_NUMBERS;
         }
@@ -525,6 +727,69 @@ fn words_of_the_arm_stand_where_its_faults_show() {
         }
     }
     assert!(shown.iter().all(|count| *count >= 3), "{shown:?}");
+}
+
+const SHORT: &[&str] = &[
+    "toe-block-ends-before-face",
+    "toe-block-ends-at-face",
+    "toe-block-ends-before-middle",
+];
+const LONG: &[&str] = &["toe-block-ends-at-middle", "toe-block-ends-past-middle"];
+const STARTS: &[&str] = &[
+    "heel-block-starts-before-face",
+    "heel-block-starts-at-face",
+    "heel-block-starts-before-middle",
+];
+const STARTS_LATE: &[&str] = &[
+    "heel-block-starts-at-middle",
+    "heel-block-starts-past-middle",
+];
+
+/// Every fault of the bearing, and the words without which it can't show.
+const BEARING_FAULTS: [(Fault, &[&[&str]]); 18] = [
+    (ContactAgainstFace, &[SHORT]),
+    (EndAtMiddleAsShort, &[&["toe-rounding-at-middle"]]),
+    (LongAsShort, &[LONG]),
+    (ShortByLine, &[SHORT]),
+    (HeelByLine, &[STARTS]),
+    (WholeTriangleInShear, &[&["toe-block-ends-before-middle"]]),
+    (ThirdLeftOut, &[SHORT]),
+    (HalfForThird, &[SHORT]),
+    (MomentAboutFace, &[SHORT]),
+    (HeelFromToe, &[STARTS, STARTS_LATE]),
+    (NegativeSquared, &[STARTS, STARTS_LATE]),
+    (HeelUnderToeAlone, &[STARTS]),
+    (RoundedUnderFace, &[&["toe-block-ends-before-middle"]]),
+    (RoundedContact, &[SHORT, STARTS]),
+    (MomentOfRoundedShear, &[SHORT]),
+    (BearingRoundedDown, &[SHORT, STARTS]),
+    (ExactPeak, &[SHORT, STARTS]),
+    (WeightUnderContactAlone, &[SHORT, STARTS, STARTS_LATE]),
+];
+
+/// A fault of the bearing shows only in jobs with a word of its own; and where the
+/// contact ends at the middle of the stem, in every job with the word.
+#[test]
+fn faults_of_the_bearing_show_where_its_words_stand() {
+    let numbers = |office: &dyn Office, job: &[u8]| {
+        let mut lines = vec![0; numbers_of(job)];
+        office.calculate(job, &mut lines);
+        lines
+    };
+    let mut shown = [0; BEARING_FAULTS.len()];
+    for (name, sample) in samples(4, JOBS) {
+        let (job, words) = (&sample.bytes, of(&sample.bytes).1);
+        let due = numbers(&Second, job);
+        for ((fault, own), shown) in BEARING_FAULTS.iter().zip(&mut shown) {
+            let shows = numbers(&Wrong(*fault), job) != due;
+            let stands = own.concat().iter().any(|word| words.contains(word));
+            assert!(stands || !shows, "{name}: {fault:?}");
+            let always = *fault == EndAtMiddleAsShort;
+            assert!(shows || !stands || !always, "{name}: {fault:?}");
+            *shown += usize::from(shows);
+        }
+    }
+    assert!(shown.iter().all(|count| *count > 0), "{shown:?}");
 }
 
 #[test]
@@ -571,7 +836,8 @@ fn what_differs_in_writing_is_said() {
     let words = said(LastRecordLeftOut);
     assert!(words.starts_with(&format!("{own}place 404 of what was lent")));
     let words = said(WallOf32Numbers);
-    assert!(words.contains("one wall of 32 numbers), 176 bytes lent: the answer is (number 6"));
+    let changed = "write of 32 and 0 numbers (a load to the end, a number more), 136 bytes lent: ";
+    assert!(words.starts_with(&format!("{changed}the answer is (number 0")));
     let words = said(NumberBehindLoads);
     assert!(words.starts_with("records, "), "{words}");
     assert!(

@@ -4,13 +4,15 @@ mod common;
 
 use common::{samples_of_each_kind, SEED};
 use second::answers::accept;
+use second::bearing::Contact::{self, HeelTriangle, ToeTriangle};
 use second::generator::draft::ends;
 use second::generator::{sample, samples, Due, KINDS};
 use second::job_file::{
     field_in_range, read_record, Header, RawWall, HEADER_BYTES, WALL_BYTES, WALL_FIELDS,
 };
 use second::section::greatest_moment;
-use second::sheet_line::work_wall;
+use second::sheet_line::{work_job, work_wall};
+use second::toe::Tip::{self, AtFace, AtMiddle, BeforeFace, BeforeMiddle, PastMiddle};
 use second::traits::{line, of, VOCABULARY};
 use std::collections::{BTreeMap, BTreeSet};
 
@@ -34,7 +36,7 @@ fn the_bytes_of_a_seed_stay_what_they_were() {
             sum = (sum ^ u64::from(byte)).wrapping_mul(0x0100_0000_01b3);
         }
     }
-    assert_eq!(sum, 0x6bb3_cf00_94dd_86f5);
+    assert_eq!(sum, 0x259c_430d_747d_d16d);
 }
 
 #[test]
@@ -189,6 +191,47 @@ fn a_lever_arm_turns_in_every_way_at_odd_and_even_depths() {
             let most = greatest_moment(d, job.walls[0].fcu);
             assert_eq!(section.effects.moment, most + 1);
         }
+    }
+}
+
+/// The triangle of each turn of `contact-end`, and its tip in each wall.
+const CONTACT_TURNS: [(Contact, &[Tip]); 12] = [
+    (ToeTriangle, &[BeforeFace]),
+    (ToeTriangle, &[BeforeFace, AtFace, BeforeMiddle]),
+    (ToeTriangle, &[BeforeMiddle]),
+    (ToeTriangle, &[BeforeMiddle, AtMiddle, PastMiddle]),
+    (ToeTriangle, &[PastMiddle]),
+    (HeelTriangle, &[BeforeFace]),
+    (HeelTriangle, &[BeforeFace, AtFace, BeforeMiddle]),
+    (HeelTriangle, &[BeforeMiddle]),
+    (HeelTriangle, &[BeforeMiddle, AtMiddle, PastMiddle]),
+    (HeelTriangle, &[PastMiddle]),
+    (ToeTriangle, &[BeforeMiddle]),
+    (HeelTriangle, &[BeforeFace]),
+];
+
+#[test]
+fn a_triangle_comes_to_nothing_at_every_place() {
+    for index in 0..4 * CONTACT_TURNS.len() {
+        let (triangle, tips) = CONTACT_TURNS[index % CONTACT_TURNS.len()];
+        let bytes = sample(SEED, kind("contact-end"), index).bytes;
+        let job = accept(&bytes).unwrap();
+        let worked = work_job(&job);
+        assert_eq!(worked.len(), tips.len(), "contact-end of index {index}");
+        for ((wall, worked), tip) in job.walls.iter().zip(&worked).zip(tips) {
+            let bearing = worked.factored_bearing.given().unwrap();
+            assert_eq!(bearing.block.kind, triangle);
+            assert_eq!(Tip::of(wall, bearing), Some(*tip));
+        }
+        // Walls alike, a step of M6 apart.
+        for (walls, worked) in job.walls.windows(2).zip(worked.windows(2)) {
+            assert_eq!(walls[0], walls[1]);
+            let (before, past) = (worked[0].factored, worked[1].factored);
+            assert_eq!((past.r, past.m6), (before.r, before.m6 + 12));
+        }
+        let rounded = triangle == ToeTriangle && tips.contains(&AtMiddle);
+        let word = of(&bytes).1.contains("toe-rounding-at-middle");
+        assert_eq!(word, rounded);
     }
 }
 

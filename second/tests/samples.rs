@@ -125,3 +125,47 @@ fn the_pages_show_what_is_printed() {
         assert!(has_lines(&sources, &sheet(&kept(name))), "{name}");
     }
 }
+
+/// "58-60" or "57": the first line and the last.
+fn lines_of(words: &str) -> (usize, usize) {
+    let (first, last) = words.split_once('-').unwrap_or((words, words));
+    (first.parse().unwrap(), last.parse().unwrap())
+}
+
+/// What the page says of the full job's failures, line by line: the last cell of a
+/// row, as in "01 on 57; 41 on 58-60", for the lines in its first.
+fn failures_shown(page: &str) -> Vec<String> {
+    let mut shown = vec!["00".to_string(); 64];
+    let mut rows = 0;
+    for row in page.lines().filter(|row| row.starts_with("| ")) {
+        let cells: Vec<&str> = row.trim_matches('|').split('|').map(str::trim).collect();
+        let (lines, failures) = (cells[0], cells[cells.len() - 1]);
+        if cells.len() != 5 || lines == "lines" {
+            continue;
+        }
+        rows += 1;
+        let each = failures.split("; ").filter(|words| *words != "none");
+        for (byte, on) in each.map(|words| words.split_once(" on ").unwrap()) {
+            for (first, last) in on.split(", ").map(lines_of) {
+                let row = lines_of(lines);
+                assert!(row.0 <= first && last <= row.1, "{failures} in {lines}");
+                shown[first - 1..last].fill(byte.to_string());
+            }
+        }
+    }
+    assert_eq!(rows, 8);
+    shown
+}
+
+#[test]
+fn the_page_shows_the_full_jobs_failures() {
+    let readme = page("jobs/README.md");
+    let (_, of_full) = readme.split_once("## full.job").unwrap();
+    let job = accept(&kept("full.job")).unwrap();
+    let worked = work_job(&job);
+    let failures: Vec<String> = worked
+        .iter()
+        .map(|w| format!("{:02x}", w.failures))
+        .collect();
+    assert_eq!(failures_shown(of_full), failures);
+}

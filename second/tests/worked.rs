@@ -39,7 +39,7 @@ fn every_row_prints_its_line() {
         assert_eq!(second::sheet(&draft.bytes()), format!("{line}\n"));
         count += 1;
     }
-    assert!(count > 150, "{count}");
+    assert!(count > 200, "{count}");
 }
 
 /// The rows stand on the edges they were chosen for.
@@ -63,7 +63,17 @@ fn the_rows_meet_every_edge() {
         "factored-m6-is-2rl",
         "factored-m6-is-4rl",
         "factored-peak-at-limit",
-        "toe-past-contact",
+        "toe-block-ends-before-face",
+        "toe-block-ends-at-face",
+        "toe-block-ends-before-middle",
+        "toe-block-ends-at-middle",
+        "toe-block-ends-past-middle",
+        "toe-rounding-at-middle",
+        "heel-block-starts-before-face",
+        "heel-block-starts-at-face",
+        "heel-block-starts-before-middle",
+        "heel-block-starts-at-middle",
+        "heel-block-starts-past-middle",
         "toe-shear-0",
         "toe-moment-0",
         "toe-compression-steel",

@@ -7,6 +7,7 @@ pub mod Bits
 pub mod ByRoot
 pub mod Bytes
 pub mod Carries
+pub mod Cuts
 pub mod Divisions
 pub mod Doubles
 pub mod Drawings
@@ -29,3 +30,4 @@ pub mod Rewritten
 pub mod Roundings
 pub mod Sections
 pub mod Sizes
+pub mod Triangles

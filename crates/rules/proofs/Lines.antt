@@ -1,9 +1,9 @@
 -- Every number of an accepted wall's line is small, and so fits 64 bits.
-use mathlib.Core.Path.{refl}
+use mathlib.Core.Path.{_≡_, refl}
 use mathlib.Core.Bool.{Bool, true, false, _||_, cond}
 use mathlib.Core.List.{List, [], _∷_}
 use Prim.Native.Nat.{ℕ, _-_, _*_, _≤_}
-use native.Mathlib.Nat.{mul-le-mul}
+use native.Mathlib.Nat.{mul-le-mul, le-trans}
 use native.Mathlib.Omega.{arith}
 use lib.Dec.{T, ltb, le→leb, lit<}
 use lib.IntN.{pos, natAbs}
@@ -14,6 +14,8 @@ use Rattle.whole.specs.Rounding.{roundedUp}
 use Rattle.whole.proofs.Integer.{≤ℤ-of-<ℤ, pos-≤ℤ, sub-<ℤ, above-less, abs-less}
 use Rattle.whole.proofs.Lists.{All, all-joined, case}
 use Rattle.whole.proofs.Rounded.{up-within}
+use Rattle.rules.specs.declared.Kind.{Kind}
+use Rattle.rules.specs.declared.Kind.the-variants.{Full, FromToe, FromHeel, NoBlock}
 use Rattle.rules.specs.declared.Block.{Block}
 use Rattle.rules.specs.declared.Section.{Section}
 use Rattle.rules.specs.declared.Action.{Action}
@@ -21,14 +23,15 @@ use Rattle.rules.specs.declared.Member.{Member}
 use Rattle.rules.specs.JobFile.{Wall, Load, stemHeight, toeLength, baseThickness, restCoefficient, baseLength, wallHeight, isDown, position, deadLoad, liveLoad, reach}
 use Rattle.rules.specs.Forces.{saturatedHeight, Component, deadPush, livePush, across, pushRows, horizontal, moment, columnSum, tenths, passive, frictionUnder, lastingWeight, isPropped, slidingUnder, slidingOf, proppingForce}
 use Rattle.rules.specs.Bearing.{serviceScale, greatestPeak, blockUnder, serviceBlock, factoredBlock, pressedBy}
-use Rattle.rules.specs.ToeAndStem.{pressureAt, twiceArm, toeWorked, shearOfBearing, momentOfBearing, toeAction, stemLoadRows, stemLoadTable, stemTable, stemAction, toeSection, stemSection, memberUnder, toeUnder, toe, stem}
+use Rattle.rules.specs.ToeAndStem.{twiceArm, straightShear, straightMoment, straight, toeWorked, toeAction, stemLoadRows, stemLoadTable, stemTable, stemAction, toeSection, stemSection, memberUnder, toeUnder, toe, stem}
 use Rattle.rules.specs.SheetLine.{workedWall, numbersBy, line}
 use Rattle.rules.specs.Beyond.{isWorkable}
 use Rattle.rules.proofs.Accepted.{WallWithin, wall-within, longest, wall-height, LoadWithin, load-within}
 use Rattle.rules.proofs.Examined.{AllFit, Fit}
 use Rattle.rules.proofs.Bits.{one-byte}
-use Rattle.rules.proofs.Pressures.{Pressable, WithinPeak, given-most, factored-pressable, reported-most, pressure-most}
+use Rattle.rules.proofs.Pressures.{Pressable, WithinPeak, given-most, factored-pressable, reported-most, scaled-most, line-most}
 use Rattle.rules.proofs.Sections.{toe-workable, stem-workable, required-most}
+use Rattle.rules.proofs.Triangles.{before, never-more}
 use Rattle.rules.proofs.Sizes.{Sound, push, pushes-sound, stem-face, Small, Moderate, each, row-at, column-moderate, service-sized}
 
 -- a member's figures are small
@@ -54,22 +57,35 @@ unfolding baseLength
 arm-most w = omega arith
 
 module _ (wall : Wall) (b : Block) (w : WallWithin wall) (p : Pressable (baseLength wall) b) where
-  pressed : (twice : ℕ) → twice ≤ 2 * baseLength wall → pressureAt wall b twice ≤ greatestPeak
-  unfolding pressureAt
-  pressed = pressure-most p
-
-  -- what presses on it, less its own weight
-  toe-action-small : Small (toeAction wall b .shear) × Small (toeAction wall b .moment)
-  unfolding toeAction shearOfBearing momentOfBearing
-  toe-action-small =
+  -- what presses on it by a straight line, where no pressure is above the greatest peak
+  straight-small : (at : ℕ → ℕ) → ((twice : ℕ) → twice ≤ 2 * baseLength wall → at twice ≤ greatestPeak)
+      → Small (straight wall at .shear) × Small (straight wall at .moment)
+  unfolding straight straightShear straightMoment
+  straight-small at pressed =
       let arm = arm-most w in
       let long = w .toe-length .1 in
       let square = mul-le-mul (arm .0) (arm .0) in
       let start = pressed 0 (omega arith) in
       let end = pressed (2 * toeLength wall) (arm .2) in
-      let middle = pressed (twiceArm wall) (arm .1) in
-      let shear : Small (shearOfBearing wall b) = quotient-small _ _ (omega (arith, mul-le-mul start long, mul-le-mul end long)) in
-      let turn : Small (momentOfBearing wall b) = quotient-small _ _ (omega (arith, mul-le-mul start square, mul-le-mul middle square)) in
+      let middle = pressed (twiceArm wall) (arm .1) in (
+        quotient-small _ _ (omega (arith, mul-le-mul start long, mul-le-mul end long)),
+        quotient-small _ _ (omega (arith, mul-le-mul start square, mul-le-mul middle square)),
+      )
+
+  before-small : (k : Kind) → b .kind ≡ k → Small (before k wall b .shear) × Small (before k wall b .moment)
+  unfolding before
+  before-small Full e = straight-small _ (line-most p e)
+  before-small FromToe e = straight-small _ (λ twice h. le-trans (scaled-most _ twice (p .contact)) (reported-most p .0))
+  before-small FromHeel e =
+      straight-small _ (λ twice h. le-trans (scaled-most _ (2 * baseLength wall - twice) (p .contact)) (reported-most p .1))
+  before-small NoBlock e = (omega arith, omega arith)
+
+  -- what presses on it now is no more, and from that its own weight is taken
+  toe-action-small : Small (toeAction wall b .shear) × Small (toeAction wall b .moment)
+  unfolding toeAction
+  toe-action-small =
+      let less = never-more wall b (p .touches) in
+      let small = before-small (b .kind) refl in
       omega arith
 
 toe-small : (wall : Wall) (loads : List Load) → Fit wall loads → SmallMember (toe wall loads)

@@ -15,7 +15,7 @@ use Rattle.rules.specs.JobFile.{Wall, activeCoefficient, waterHeight, u1
 use Rattle.rules.specs.Answered.{countsFit, offsetsFit, lengthFits, wallAnswer, firstBadWall, firstBadLoad, firstRefusal}
 use Rattle.rules.specs.Forces.{saturatedHeight, stemWeight, baseWeight, saturatedWeight, moistWeight, surchargeWeight, surchargePush, moistPush, moistPushBelow, saturatedPush, waterPush, weightRows, pushRows, loadRow, deadRow, liveRow, loadTable, table, columnSum, totals, service, factored, passiveDepth, passive, lastingWeight, frictionUnder, isPropped, slidingUnder, slidingOf}
 use Rattle.rules.specs.Bearing.{serviceScale, isNone, isFull, isFromToe, isFromHeel, kindOf, ofKind, blockOf, reported, peak, given, blockUnder, serviceBlock, factoredBlock, pressedBy}
-use Rattle.rules.specs.ToeAndStem.{scaled, pressureBy, pressureAt, toeWorked, shearOfBearing, shearOfWeight, momentOfBearing, momentOfWeight, toeAction, stemLoadTable, stemTable, stemAction, twiceDepth, needsCompression, bears, greatest, leverArm, neededArea, leastArea, besides, barArea, providedArea, requiredArea, steelFails, shearFails, memberUnder, toeUnder, toe, stem}
+use Rattle.rules.specs.ToeAndStem.{scaled, straightShear, straightMoment, straight, bearingBy, toeBearing, toeWorked, shearOfWeight, momentOfWeight, toeAction, stemLoadTable, stemTable, stemAction, twiceDepth, needsCompression, bears, greatest, leverArm, neededArea, leastArea, besides, barArea, providedArea, requiredArea, steelFails, shearFails, memberUnder, toeUnder, toe, stem}
 use Rattle.rules.specs.SheetLine.{ascii, workedWall, failsBy, bitsAmong, failuresBy, numbersBy, line, linesFrom, sheet, joined, digits, decimal, signedDecimal, hexDigits, lineRest, lineText, printed}
 
 -- what the definitions give, and what document 01 wants
@@ -95,5 +95,5 @@ Hold [] = Unit
 Hold (p ∷ rest) = (p .worked ≡ p .wanted) × Hold rest
 
 pub points-hold : Hold points
-unfolding excavatedA shown u16At u32At u32sAt entriesAt wallAt recordsFrom walls entries loadsOn baseLength wallHeight among within firstOutside firstBadField wallFits countsFit offsetsFit lengthFits wallAnswer firstBadWall firstBadLoad firstRefusal saturatedHeight stemWeight baseWeight saturatedWeight moistWeight surchargeWeight surchargePush moistPush moistPushBelow saturatedPush waterPush weightRows pushRows loadRow deadRow liveRow loadTable table columnSum totals service factored passiveDepth passive lastingWeight frictionUnder isPropped slidingUnder slidingOf isNone isFull isFromToe isFromHeel kindOf ofKind blockOf reported peak given blockUnder serviceBlock factoredBlock pressedBy scaled pressureBy pressureAt toeWorked shearOfBearing shearOfWeight momentOfBearing momentOfWeight toeAction stemLoadTable stemTable stemAction twiceDepth needsCompression bears greatest leverArm neededArea leastArea besides barArea providedArea requiredArea steelFails shearFails memberUnder toeUnder toe stem workedWall failsBy bitsAmong failuresBy numbersBy line linesFrom sheet joined digits decimal signedDecimal hexDigits lineRest lineText printed roundedUp roundedDown roundedNearest sumOf
+unfolding excavatedA shown u16At u32At u32sAt entriesAt wallAt recordsFrom walls entries loadsOn baseLength wallHeight among within firstOutside firstBadField wallFits countsFit offsetsFit lengthFits wallAnswer firstBadWall firstBadLoad firstRefusal saturatedHeight stemWeight baseWeight saturatedWeight moistWeight surchargeWeight surchargePush moistPush moistPushBelow saturatedPush waterPush weightRows pushRows loadRow deadRow liveRow loadTable table columnSum totals service factored passiveDepth passive lastingWeight frictionUnder isPropped slidingUnder slidingOf isNone isFull isFromToe isFromHeel kindOf ofKind blockOf reported peak given blockUnder serviceBlock factoredBlock pressedBy scaled straightShear straightMoment straight bearingBy toeBearing toeWorked shearOfWeight momentOfWeight toeAction stemLoadTable stemTable stemAction twiceDepth needsCompression bears greatest leverArm neededArea leastArea besides barArea providedArea requiredArea steelFails shearFails memberUnder toeUnder toe stem workedWall failsBy bitsAmong failuresBy numbersBy line linesFrom sheet joined digits decimal signedDecimal hexDigits lineRest lineText printed roundedUp roundedDown roundedNearest sumOf
 points-hold = (refl, (refl, (refl, (refl, (refl, (refl, (refl, (refl, (refl, (refl, (refl, (refl, (refl, (refl, (refl, (refl, tt))))))))))))))))

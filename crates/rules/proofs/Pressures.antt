@@ -1,4 +1,5 @@
--- What the factored block of an accepted wall is at a point: its figures are not negative and small, and no pressure is above the greatest peak.
+-- What the factored block of an accepted wall is at a point: its figures are not negative and small, its contact is above 0 and within the base, and no pressure
+-- is above the greatest peak.
 use mathlib.Core.Path.{_≡_, refl, ap}
 use mathlib.Core.List.{List}
 use Prim.Native.Nat.{ℕ, _+_, _-_, _*_, _≤_, _<_}
@@ -18,7 +19,7 @@ use Rattle.rules.specs.declared.Block.{Block}
 use Rattle.rules.specs.declared.Pressed.{Pressed}
 use Rattle.rules.specs.JobFile.{Wall, Load, baseLength}
 use Rattle.rules.specs.Bearing.{ofKind, factoredScale, reported, peak, greatestPeak, given, blockUnder, factoredBlock, isGiven, pressedBy}
-use Rattle.rules.specs.ToeAndStem.{scaled, onLine, pressureBy}
+use Rattle.rules.specs.ToeAndStem.{scaled, onLine}
 use Rattle.rules.proofs.Accepted.{wall-within, longest, base-length}
 use Rattle.rules.proofs.Examined.{Fit, fits-of}
 use Rattle.rules.proofs.Sizes.{heaviestFactored, factored-sized}
@@ -35,6 +36,10 @@ pub record ReachesUnder (heavy : ℕ) (contact : Fraction) : Type 0 where
 abbrev pub Reaches : Fraction → Type 0
 Reaches contact = ReachesUnder heaviestFactored contact
 
+-- a contact of p/q on a base of length l: a match puts the two numbers in its place
+pub data Touches (l : ℕ) : Fraction → Type 0 where
+  touches : {p q : ℕ} → 0 < p → 0 < q → p ≤ l * q → Touches l (record { over = pos p; under = pos q })
+
 -- a block on a base of length l whose pressure at a point can be worked
 pub record Pressable (l : ℕ) (b : Block) : Type 0 where
   pub long : l ≤ longest
@@ -44,6 +49,7 @@ pub record Pressable (l : ℕ) (b : Block) : Type 0 where
   pub heel-limit : factoredScale * aboveZero (b .heel .over) ≤ greatestPeak * aboveZero (b .heel .under)
   pub even : b .kind ≡ Full → (b .toe .under ≡ pos (l * l)) × (b .heel .under ≡ pos (l * l))
   pub contact : Reaches (b .contact)
+  pub touches : T (isGiven b) → Touches l (b .contact)
 
 -- the pressures of a block that reports them
 pub reports : (scale : ℕ) {p : Pressed} → p ≡ pressedBy scale (p .block)
@@ -65,6 +71,9 @@ given-most scale b =
 -- ---- the contact of a block
 
 -- one that is above 0 and within the base
+touching : {l : ℕ} {p q : ℤ} → Above p → Above q → p ≤ℤ (pos l *ℤ q) → Touches l (record { over = p; under = q })
+touching (above p hp) (above q hq) within = touches hp hq (pos-≤ℤ .0 within)
+
 within-base : {l heavy : ℕ} {p q : ℤ} → l ≤ longest → Above p → Above q → p ≤ℤ (pos l *ℤ q) → aboveZero q ≤ 2 * heavy
     → ReachesUnder heavy (record { over = p; under = q })
 within-base long (above p hp) (above q hq) short most =
@@ -119,6 +128,7 @@ module _ (R M6 : ℤ) (l : ℕ) (light : R <ℤ pos heaviestFactored) (long : l 
         heel-limit = limit (b .heel) (proper .heel) (most .1);
         even = even;
         contact = contact;
+        touches = λ t. touching (is-above (bears .some)) (is-above (proper .contact)) (bears .within);
       }
 
   -- so is the block of each kind; where there is none, its zeros are
@@ -136,6 +146,7 @@ module _ (R M6 : ℤ) (l : ℕ) (light : R <ℤ pos heaviestFactored) (long : l 
         heel-limit = omega arith;
         even = λ e. (cc, cc);
         contact = contact NoBlock bears;
+        touches = λ t. absurd t;
       }
 
 -- the factored block of an accepted wall is Pressable, given or not
@@ -155,7 +166,7 @@ unfolding reported
 reported-most p = (up-least _ (p .toe-limit), up-least _ (p .heel-limit))
 
 -- the part in contact is at most all of it
-scaled-most : (greatest away : ℕ) {contact : Fraction} → Reaches contact → scaled greatest contact away ≤ greatest
+pub scaled-most : (greatest away : ℕ) {contact : Fraction} → Reaches contact → scaled greatest contact away ≤ greatest
 unfolding scaled
 scaled-most greatest away {contact} c =
     up-least _ (mul-le-mul-left greatest (above-sub (pos 2 *ℤ contact .over) (*ℤ-nonneg (c .under) (pos-≤ℤ {b = away} .1 (omega arith)))))
@@ -165,16 +176,9 @@ between : (l m n q : ℕ) {t g : ℤ} → m + n ≡ l → Whole t → Whole g �
     → factoredScale * aboveZero g ≤ greatestPeak * q → factoredScale * aboveZero (t *ℤ pos m +ℤ g *ℤ pos n) ≤ greatestPeak * (l * q)
 between l m n q e (whole t) (whole g) h k = rw (← e) (omega (arith, mul-le-mul-right m h, mul-le-mul-right n k))
 
--- at no point of the base is there more than the greatest peak
-pub pressure-most : {l : ℕ} {b : Block} → Pressable l b → (twice : ℕ) → twice ≤ 2 * l → pressureBy (b .kind) b l twice ≤ greatestPeak
-unfolding pressureBy onLine
-pressure-most {l} {b} p twice h = go (b .kind) refl
-  where
-    go : (k : Kind) → b .kind ≡ k → pressureBy k b l twice ≤ greatestPeak
-    go Full e =
-        let under = p .even e in
-        let limits = between (2 * l) (2 * l - twice) twice (l * l) (omega arith) (is-whole (p .toe)) (is-whole (p .heel)) in
-        up-least _ (rw (under .0) (limits (rw (under .0) at (p .toe-limit)) (rw (under .1) at (p .heel-limit))))
-    go FromToe e = le-trans (scaled-most _ _ (p .contact)) (reported-most p .0)
-    go FromHeel e = le-trans (scaled-most _ _ (p .contact)) (reported-most p .1)
-    go NoBlock e = omega arith
+pub line-most : {l : ℕ} {b : Block} → Pressable l b → b .kind ≡ Full → (twice : ℕ) → twice ≤ 2 * l → onLine b l twice ≤ greatestPeak
+unfolding onLine
+line-most {l} {b} p full twice h =
+    let under = p .even full in
+    let limits = between (2 * l) (2 * l - twice) twice (l * l) (omega arith) (is-whole (p .toe)) (is-whole (p .heel)) in
+    up-least _ (rw (under .0) (limits (rw (under .0) at (p .toe-limit)) (rw (under .1) at (p .heel-limit))))

@@ -37,6 +37,13 @@ minus a b = a .over *ℤ b .under -ℤ b .over *ℤ a .under over a .under *ℤ 
 abbrev pub times : Fraction → Fraction → Fraction
 times a b = a .over *ℤ b .over over a .under *ℤ b .under
 
+abbrev pub dividedBy : Fraction → Fraction → Fraction
+dividedBy a b = a .over *ℤ b .under over a .under *ℤ b .over
+
+-- less, multiplied out
+abbrev pub lessThan : Fraction → Fraction → Bool
+lessThan a b = ltZ (a .over *ℤ b .under) (b .over *ℤ a .under)
+
 -- equal, multiplied out
 abbrev pub Same : Fraction → Fraction → Type 0
 Same a b = a .over *ℤ b .under ≡ b .over *ℤ a .under

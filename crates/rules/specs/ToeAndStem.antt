@@ -18,14 +18,14 @@ use Rattle.rules.specs.declared.Steel.{Steel}
 use Rattle.rules.specs.declared.Member.{Member}
 use Rattle.rules.specs.JobFile.{Wall, Load, stemHeight, stemThickness, toeLength, baseThickness, baseDensity, restCoefficient, concreteStrength, steelStrength, leastSteel, toeCover, toeBar, toeSpacing, stemCover, stemBar, stemSpacing, toeStress, stemStress, baseLength, bars, isDown, position, deadLoad, liveLoad}
 use Rattle.rules.specs.Forces.{perVolume, squared, saturatedHeight, Component, deadPush, livePush, across, pushRows, horizontal, moment, columnSum, tenths}
-use Rattle.rules.specs.Bearing.{factoredScale, reported, factoredBlock, isGiven}
+use Rattle.rules.specs.Bearing.{_over_, overOne, minus, times, dividedBy, lessThan, factoredScale, reported, factoredBlock, isGiven}
 
 -- ---- the factored pressure at a point, rounded up. Distances are given twice, so that half a millimetre is exact.
 
--- a triangle: what its reported peak has fallen to at a point so far from the peak's own end; 0 where the contact has ended
+-- a triangle from the toe: what its reported peak has fallen to at a point so far from the toe; 0 where the contact has ended
 unfoldable pub scaled : ℕ → Fraction → ℕ → ℕ
-scaled peak contact twiceAway =
-    roundedUp (peak * aboveZero (pos 2 *ℤ contact .over -ℤ contact .under *ℤ pos twiceAway)) (aboveZero (pos 2 *ℤ contact .over))
+scaled peak contact twice =
+    roundedUp (peak * aboveZero (pos 2 *ℤ contact .over -ℤ contact .under *ℤ pos twice)) (aboveZero (pos 2 *ℤ contact .over))
 
 -- the straight line between a full block's ends, both of which are over l^2
 unfoldable pub onLine : Block → ℕ → ℕ → ℕ
@@ -33,42 +33,100 @@ onLine b l twice =
     roundedUp (factoredScale * aboveZero (b .toe .over *ℤ pos (2 * l - twice) +ℤ b .heel .over *ℤ pos twice))
     (2 * l * aboveZero (b .toe .under))
 
-unfoldable pub pressureBy : Kind → Block → ℕ → ℕ → ℕ
-pressureBy Full b l twice = onLine b l twice
-pressureBy FromToe b l twice = scaled (reported factoredScale (b .toe)) (b .contact) twice
-pressureBy FromHeel b l twice = scaled (reported factoredScale (b .heel)) (b .contact) (2 * l - twice)
-pressureBy NoBlock b l twice = 0
-
--- under a wall's base, at a point so far from the toe
-unfoldable pub pressureAt : Wall → Block → ℕ → ℕ
-pressureAt wall b twice = pressureBy (b .kind) b (baseLength wall) twice
-
--- ---- the toe, over a factored block
+-- ---- what bears on the toe by a straight line from its end to the middle of the stem
 
 -- 2a: twice the distance of the stem's middle from the toe
 abbrev pub twiceArm : Wall → ℕ
 twiceArm wall = 2 * toeLength wall + stemThickness wall
-
--- there is a toe, and a block under it
-unfoldable pub toeWorked : Wall → Block → Bool
-toeWorked wall b = ltb 0 (toeLength wall) && isGiven b
 
 -- mm x (N/m2) on a metre's run: 1000 to the newton
 abbrev pub perPressure : ℕ
 perPressure = 1000
 
 -- (p at 0 + p at lt) x lt / 2, rounded up
-unfoldable pub shearOfBearing : Wall → Block → ℕ
-shearOfBearing wall b = roundedUp ((pressureAt wall b 0 + pressureAt wall b (2 * toeLength wall)) * toeLength wall) (2 * perPressure)
+unfoldable pub straightShear : Wall → ℕ → ℕ → ℕ
+straightShear wall atEnd atFace = roundedUp ((atEnd + atFace) * toeLength wall) (2 * perPressure)
+
+-- (2 x p at 0 + p at a) x a^2 / 6, rounded up; a^2 is a quarter of (2a)^2
+unfoldable pub straightMoment : Wall → ℕ → ℕ → ℕ
+straightMoment wall atEnd atMiddle = roundedUp ((2 * atEnd + atMiddle) * squared (twiceArm wall)) (4 * 6 * perPressure)
+
+-- where p is the pressure at a point
+unfoldable pub straight : Wall → (ℕ → ℕ) → Action
+straight wall p =
+    record { shear = straightShear wall (p 0) (p (2 * toeLength wall)); moment = straightMoment wall (p 0) (p (twiceArm wall)) }
+
+-- ---- what bears on it by the triangle that is there (#105 of document 02), of peak P and contact c: fractions, which are rounded up once
+
+abbrev pub plain : ℕ → Fraction
+plain n = overOne (pos n)
+
+-- from the toe, where it ends before a: all of it if it ends at lt or before, P x c / 2; else its part over lt, P x lt x (2c - lt) / 2c
+unfoldable pub endedShear : Fraction → Fraction → Fraction → Fraction
+endedShear P c lt =
+    let double = times (plain 2) c in
+    cond (lessThan lt c) (dividedBy (times (times P lt) (minus double lt)) double) (times P (dividedBy c (plain 2)))
+
+-- P x c / 2 x (a - c / 3)
+unfoldable pub endedMoment : Fraction → Fraction → Fraction → Fraction
+endedMoment P c a = times (times P (dividedBy c (plain 2))) (minus a (dividedBy c (plain 3)))
+
+-- from the heel, where it begins at z: its part before lt, P x (lt - z)^2 / 2c
+unfoldable pub begunShear : Fraction → Fraction → Fraction → Fraction → Fraction
+begunShear P c z lt =
+    let covered = minus lt z in
+    cond (lessThan z lt) (dividedBy (times P (times covered covered)) (times (plain 2) c)) (plain 0)
+
+-- its part before a, P x (a - z)^3 / 6c
+unfoldable pub begunMoment : Fraction → Fraction → Fraction → Fraction → Fraction
+begunMoment P c z a =
+    let covered = minus a z in
+    cond (lessThan z a) (dividedBy (times P (times covered (times covered covered))) (times (plain 6) c)) (plain 0)
+
+-- in N and N mm
+unfoldable pub inNewtons : Fraction → ℕ
+inNewtons bearing = roundedUp (aboveZero (bearing .over)) (perPressure * aboveZero (bearing .under))
+
+-- lt and a
+abbrev pub stemFace : Wall → Fraction
+stemFace wall = plain (toeLength wall)
+
+abbrev pub stemMiddle : Wall → Fraction
+stemMiddle wall = pos (twiceArm wall) over pos 2
+
+unfoldable pub endedBearing : Wall → ℕ → Fraction → Action
+endedBearing wall peak c =
+    record { shear = inNewtons (endedShear (plain peak) c (stemFace wall)); moment = inNewtons (endedMoment (plain peak) c (stemMiddle wall)) }
+
+unfoldable pub begunBearing : Wall → ℕ → Fraction → Action
+begunBearing wall peak c =
+    let z = minus (plain (baseLength wall)) c in
+    record { shear = inNewtons (begunShear (plain peak) c z (stemFace wall)); moment = inNewtons (begunMoment (plain peak) c z (stemMiddle wall)) }
+
+-- ---- the toe, over a factored block
+
+abbrev pub noAction : Action
+noAction = record { shear = 0; moment = 0 }
+
+-- a full block has the straight line, and so has a triangle from the toe that reaches a
+unfoldable pub bearingBy : Kind → Wall → Block → Action
+bearingBy Full wall b = straight wall (onLine b (baseLength wall))
+bearingBy FromToe wall b =
+    let peak = reported factoredScale (b .toe) in
+    cond (lessThan (b .contact) (stemMiddle wall)) (endedBearing wall peak (b .contact)) (straight wall (scaled peak (b .contact)))
+bearingBy FromHeel wall b = begunBearing wall (reported factoredScale (b .heel)) (b .contact)
+bearingBy NoBlock wall b = noAction
+
+unfoldable pub toeBearing : Wall → Block → Action
+toeBearing wall b = bearingBy (b .kind) wall b
+
+-- there is a toe, and a block under it
+unfoldable pub toeWorked : Wall → Block → Bool
+toeWorked wall b = ltb 0 (toeLength wall) && isGiven b
 
 -- 1.4 x base density x tb x lt, rounded down; 1.4 is 14 tenths
 unfoldable pub shearOfWeight : Wall → ℕ
 shearOfWeight wall = roundedDown (14 * baseDensity wall * baseThickness wall * toeLength wall) (10 * perVolume)
-
--- (2 x p at 0 + p at a) x a^2 / 6, rounded up; a^2 is a quarter of (2a)^2
-unfoldable pub momentOfBearing : Wall → Block → ℕ
-momentOfBearing wall b =
-    roundedUp ((2 * pressureAt wall b 0 + pressureAt wall b (twiceArm wall)) * squared (twiceArm wall)) (4 * 6 * perPressure)
 
 -- 1.4 x base density x tb x a^2 / 2, rounded down
 unfoldable pub momentOfWeight : Wall → ℕ
@@ -76,7 +134,8 @@ momentOfWeight wall = roundedDown (14 * baseDensity wall * baseThickness wall * 
 
 -- bearing less weight; a difference of whole numbers is 0 where it would be negative
 unfoldable pub toeAction : Wall → Block → Action
-toeAction wall b = record { shear = shearOfBearing wall b - shearOfWeight wall; moment = momentOfBearing wall b - momentOfWeight wall }
+toeAction wall b =
+    record { shear = toeBearing wall b .shear - shearOfWeight wall; moment = toeBearing wall b .moment - momentOfWeight wall }
 
 -- ---- the stem, on the base's top
 
@@ -198,9 +257,6 @@ steelUnder s M = record { required = requiredArea s M; fails = steelFails s M }
 
 unfoldable pub memberUnder : Section → Action → Member
 memberUnder s a = record { action = a; steel = steelUnder s (a .moment); sheared = shearFails s (a .shear) }
-
-abbrev pub noAction : Action
-noAction = record { shear = 0; moment = 0 }
 
 -- figures of 0, and no check made
 abbrev pub noMember : Member

@@ -1,50 +1,68 @@
 -- The pressure at a point in whole numbers: none of the figures that it is worked from is negative, and their products are within 63 bits.
-use mathlib.Core.Path.{_≡_, ap}
+use mathlib.Core.Path.{_≡_, ap, _∙_}
 use Prim.Native.Nat.{ℕ, _+_, _-_, _*_, _≤_, _<_, _^_}
-use native.Mathlib.Nat.{mul-le-mul, mul-le-mul-right}
+use native.Mathlib.Nat.{mul-pos, mul-le-mul, mul-le-mul-left, mul-le-mul-right}
 use native.Mathlib.Omega.{arith}
+use lib.IntN.{pos}
 use Rattle.whole.specs.Parts.{aboveZero}
 use Rattle.whole.specs.Rounding.{roundedUp}
 use Rattle.whole.proofs.Integer.{above-minus, nonneg-aboveZero}
-use Rattle.rules.specs.declared.Fraction.{Fraction}
+use Rattle.whole.proofs.Rounded.{up-least, up-alike}
+use Rattle.rules.specs.declared.Action.{Action}
 use Rattle.rules.specs.declared.Kind.the-variants.{Full}
 use Rattle.rules.specs.declared.Block.{Block}
-use Rattle.rules.specs.Bearing.{factoredScale, greatestPeak}
-use Rattle.rules.specs.ToeAndStem.{scaled, onLine}
+use Rattle.rules.specs.JobFile.{Wall, toeLength}
+use Rattle.rules.specs.Bearing.{factoredScale, reported, greatestPeak}
+use Rattle.rules.specs.ToeAndStem.{scaled, onLine, twiceArm, straightShear, straightMoment, straight}
 use Rattle.rules.proofs.Accepted.{longest}
-use Rattle.rules.proofs.Sizes.{heaviestFactored}
-use Rattle.rules.proofs.Pressures.{Reaches, Pressable}
+use Rattle.rules.proofs.Pressures.{Pressable}
+use Rattle.wall.specs.Working.{fraction}
 
--- a peak is scaled by what twice the contact has left
-pub whole-scaled : (peak twice : ℕ) {contact : Fraction} → Reaches contact
-    → scaled peak contact twice
-    ≡ roundedUp (peak * (2 * aboveZero (contact .over) - aboveZero (contact .under) * twice)) (2 * aboveZero (contact .over))
+-- a peak is scaled by what twice the contact has left, and is no more than before
+pub whole-scaled : (peak twice p q : ℕ) → scaled peak (fraction p q) twice ≡ roundedUp (peak * (2 * p - q * twice)) (2 * p)
 unfolding scaled
-whole-scaled peak twice h = rw (nonneg-aboveZero (h .over), nonneg-aboveZero (h .under), above-minus)
+whole-scaled peak twice p q = rw (above-minus (pos (2 * p)) (q * twice))
 
--- its products are within 63 bits
-pub scaled-fits : {peak twice : ℕ} {contact : Fraction} → peak ≤ greatestPeak → Reaches contact → twice ≤ 2 * longest
-    → (peak * (2 * aboveZero (contact .over) - aboveZero (contact .under) * twice) < 2 ^ 63) × (2 * aboveZero (contact .over) < 2 ^ 63)
-    × (aboveZero (contact .under) * twice < 2 ^ 63)
-scaled-fits {peak} {twice} {contact} most h near =
-    let part : 2 * aboveZero (contact .over) - aboveZero (contact .under) * twice ≤ 2 * (2 * heaviestFactored * longest) = omega (arith, h .over-most) in
-    omega (arith, mul-le-mul most part, mul-le-mul (h .under-most) near)
+pub scaled-within : (peak twice p q : ℕ) → roundedUp (peak * (2 * p - q * twice)) (2 * p) ≤ peak
+scaled-within peak twice p q = up-least (2 * p) (mul-le-mul-left peak (let k : 2 * p - q * twice ≤ 2 * p = omega arith in k))
 
--- a full block's line weighs each end by the distance from the other
-pub whole-line : (l twice : ℕ) {b : Block} → Pressable l b
-    → onLine b l twice
-    ≡ roundedUp (factoredScale * (aboveZero (b .toe .over) * (2 * l - twice) + aboveZero (b .heel .over) * twice)) (2 * l * aboveZero (b .toe .under))
-unfolding onLine
-whole-line l twice h = rw (nonneg-aboveZero (h .toe), nonneg-aboveZero (h .heel))
+-- a block on a base of length m, by a number that is m
+pub pressable-on : {l m : ℕ} {b : Block} → l ≡ m → Pressable m b → Pressable l b
+pressable-on e h = rw e h
 
--- both ends are over l^2, and neither is above the greatest peak
-pub line-fits : {l twice : ℕ} {b : Block} → Pressable l b → b .kind ≡ Full → twice ≤ 2 * l
-    → (factoredScale * (aboveZero (b .toe .over) * (2 * l - twice) + aboveZero (b .heel .over) * twice) < 2 ^ 63)
-    × (2 * l * aboveZero (b .toe .under) < 2 ^ 63)
-line-fits {l} {twice} {b} h full on =
-    let long = h .long in
-    let even = h .even full in
-    let square = mul-le-mul long long in
-    let toe : factoredScale * aboveZero (b .toe .over) ≤ greatestPeak * (longest * longest) = omega (arith, ap aboveZero (even .0)) in
-    let heel : factoredScale * aboveZero (b .heel .over) ≤ greatestPeak * (longest * longest) = omega (arith, ap aboveZero (even .1)) in
-    (omega (arith, mul-le-mul-right (2 * l - twice) toe, mul-le-mul-right twice heel), rw (even .0) (omega (arith, mul-le-mul long square)))
+-- ---- a full block's line, whose ends are t and g over u
+
+module _ {l : ℕ} {b : Block} (h : Pressable l b) {t g u : ℕ} (toe : t ≡ aboveZero (b .toe .over)) (heel : g ≡ aboveZero (b .heel .over))
+    (under : u ≡ aboveZero (b .toe .under)) where
+  -- it weighs each end by the distance from the other
+  pub whole-line : (twice : ℕ) → onLine b l twice ≡ roundedUp (factoredScale * (t * (2 * l - twice) + g * twice)) (2 * l * u)
+  unfolding onLine
+  whole-line twice = rw (toe, heel, under, nonneg-aboveZero (h .toe), nonneg-aboveZero (h .heel))
+
+  -- both ends are over l^2, and neither is above the greatest peak
+  pub line-fits : b .kind ≡ Full → (twice : ℕ) → twice ≤ 2 * l
+      → (l ≤ longest) × (twice ≤ 2 * l) × (factoredScale * (t * (2 * l - twice) + g * twice) < 2 ^ 63) × (2 * l * u < 2 ^ 63)
+  line-fits full twice on =
+      let long = h .long in
+      let square = mul-le-mul long long in
+      let even = h .even full in
+      let from : factoredScale * t ≤ greatestPeak * (longest * longest) = omega (arith, ap aboveZero (even .0), h .toe-limit) in
+      let to : factoredScale * g ≤ greatestPeak * (longest * longest) = omega (arith, ap aboveZero (even .1), h .heel-limit) in
+      let per : u ≡ l * l = omega (arith, ap aboveZero (even .0)) in
+      (long, on, omega (arith, mul-le-mul-right (2 * l - twice) from, mul-le-mul-right twice to), rw per (omega (arith, mul-le-mul long square)))
+
+  -- it begins with the reported pressure
+  pub line-start : b .kind ≡ Full → 0 < l → onLine b l 0 ≡ reported factoredScale (b .toe)
+  unfolding reported
+  line-start full some =
+      let per : u ≡ l * l = omega (arith, ap aboveZero (h .even full .0)) in
+      let far : 2 * l - 0 ≡ 2 * l = omega arith in
+      whole-line 0
+      ∙ rw (← toe, ← under, per, far) (up-alike _ (factoredScale * t) (omega (arith, mul-pos some (mul-pos some some))) (mul-pos some some) (omega arith))
+
+-- the shear and the moment of a straight line, as they are worked for a wall's own lengths and the pressure f at a point
+pub straight-action : (wall : Wall) (f : ℕ → ℕ) {lt A end face middle : ℕ} {r : Action} → lt ≡ toeLength wall → A ≡ twiceArm wall
+    → end ≡ f 0 → face ≡ f (2 * lt) → middle ≡ f A → (r .shear ≡ straightShear wall end face) × (r .moment ≡ straightMoment wall end middle)
+    → r ≡ straight wall f
+unfolding straight
+straight-action wall f a b e v m h = λ i. record { shear = rw (e, v, a) at (h .0) i; moment = rw (e, m, b) at (h .1) i }

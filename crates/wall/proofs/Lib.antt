@@ -1,3 +1,5 @@
 pub mod Answers
+pub mod Contacts
 pub mod Exact
 pub mod Once
+pub mod Widths

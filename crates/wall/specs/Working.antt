@@ -1,17 +1,38 @@
 -- A wall as the code works it: from what bears it, which `bearing` answers with.
 use mathlib.Core.Path.{_≡_}
+use Prim.Native.Nat.{ℕ, _*_, _≤_, _<_}
+use lib.IntN.{pos}
 use Rattle.rules.specs.declared.Borne.{Borne}
+use Rattle.rules.specs.declared.Fraction.{Fraction}
 use Rattle.rules.specs.declared.Pressed.{Pressed}
 use Rattle.rules.specs.declared.WorkedWall.{WorkedWall}
 use Rattle.rules.specs.JobFile.{Wall, baseLength}
-use Rattle.rules.specs.Bearing.{factoredScale, pressedBy}
-use Rattle.rules.specs.ToeAndStem.{stemSection, memberUnder, toeUnder}
+use Rattle.rules.specs.Bearing.{minus, factoredScale, greatestPeak, pressedBy}
+use Rattle.rules.specs.ToeAndStem.{plain, stemSection, memberUnder, toeUnder}
+use Rattle.rules.proofs.Accepted.{longest}
+use Rattle.rules.proofs.Sizes.{heaviestFactored}
 use Rattle.rules.proofs.Pressures.{Pressable}
 
 -- a factored block with the pressures that it reports, small enough for the toe to be worked over it
 pub record Bears (wall : Wall) (factored : Pressed) : Type 0 where
   pub reports : factored ≡ pressedBy factoredScale (factored .block)
   pub pressable : Pressable (baseLength wall) (factored .block)
+
+-- a fraction of two whole numbers
+abbrev pub fraction : ℕ → ℕ → Fraction
+fraction over under = record { over = pos over; under = pos under }
+
+-- where a triangle from the heel begins, on a base of length l
+abbrev pub begins : ℕ → ℕ → ℕ → Fraction
+begins l over under = minus (plain l) (fraction over under)
+
+-- a triangle's peak and contact, over and under, with which its bearing can be worked
+pub record Stands (peak over under : ℕ) : Type 0 where
+  pub peak-most : peak ≤ greatestPeak
+  pub over-some : 0 < over
+  pub under-some : 0 < under
+  pub over-most : over ≤ 2 * heaviestFactored * longest
+  pub under-most : under ≤ 2 * heaviestFactored
 
 unfoldable pub workedOver : Wall → Borne → WorkedWall
 workedOver wall borne =

@@ -4,6 +4,7 @@ mod members;
 mod pressure;
 mod sections;
 mod toe;
+mod triangle;
 
 use record::Loads;
 use record::Wall;

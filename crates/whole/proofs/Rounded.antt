@@ -2,7 +2,7 @@
 use mathlib.Core.Path.{_≡_, sym}
 use mathlib.Core.Logic.{_≢_}
 use Prim.Native.Nat.{ℕ, zero, suc, _+_, _-_, _*_, _/_, _%_, _≤_, _<_}
-use native.Mathlib.Nat.{div-zero, zero-div, div-add-mod', mod-lt, le-mul-of-pos-right, div-mul-le-self, lt-div-mul-add, le-div-iff-mul-le, div-lt-iff-lt-mul, div-eq-of-lt-le, le-trans}
+use native.Mathlib.Nat.{div-zero, zero-div, div-add-mod', mod-lt, le-mul-of-pos-right, div-mul-le-self, lt-div-mul-add, le-div-iff-mul-le, div-lt-iff-lt-mul, div-eq-of-lt-le, le-trans, mul-le-mul-right, le-of-mul-le-mul-right}
 use native.Mathlib.Omega.{arith}
 use Rattle.whole.specs.Rounding.{roundedUp, roundedDown, roundedNearest}
 
@@ -28,6 +28,11 @@ nearest-by-zero a = div-zero (2 * a + 0)
 pub up-enough : (a : ℕ) {b : ℕ} → 0 < b → a ≤ roundedUp a b * b
 unfolding roundedUp
 up-enough a {b} h = omega (arith, lt-div-mul-add {a = a + (b - 1)} h)
+
+-- and less than one too much
+pub up-tight : (a : ℕ) {b : ℕ} → 0 < b → roundedUp a b * b < a + b
+unfolding roundedUp
+up-tight a {b} h = omega (arith, div-mul-le-self (a + (b - 1)) b)
 
 -- whatever is enough is no less
 pub up-least : {a n : ℕ} (b : ℕ) → a ≤ n * b → roundedUp a b ≤ n
@@ -116,6 +121,14 @@ down-mono b h = div-mono b h
 pub nearest-mono : {a c : ℕ} (b : ℕ) → a ≤ c → roundedNearest a b ≤ roundedNearest c b
 unfolding roundedNearest
 nearest-mono b h = div-mono (2 * b) (omega arith)
+
+-- a fraction that is no greater is rounded up to no more, and so equal ones are rounded up alike
+pub up-across : (a b c : ℕ) {d : ℕ} → 0 < d → a * d ≤ c * b → roundedUp a b ≤ roundedUp c d
+up-across a b c {d} h k =
+    up-least b (le-of-mul-le-mul-right {k = d} (omega (arith, mul-le-mul-right b (up-enough c h))) h)
+
+pub up-alike : (a c : ℕ) {b d : ℕ} → 0 < b → 0 < d → a * d ≡ c * b → roundedUp a b ≡ roundedUp c d
+up-alike a c {b} {d} h k e = omega (arith, up-across a b c k (omega arith), up-across c d a h (omega arith))
 
 -- ---- the three against one another, at any divisor
 -- down is at most the nearest

@@ -84,7 +84,11 @@ impl<'a, O: Office> Comparer<'a, O> {
             }
         }
         self.hold_writing(job, accepted.is_ok(), random)?;
-        let worked = accepted.map(|job| work_job(&job));
+        let worked = accepted.map(|job| {
+            let worked = work_job(&job);
+            self.tally.count_tips(&job.walls, &worked);
+            worked
+        });
         let walls = worked.iter().flatten().map(|wall| wall.failures);
         for failures in walls.chain(NO_FAILURES) {
             self.hold_has_failed(failures)?;

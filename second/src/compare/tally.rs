@@ -2,8 +2,10 @@
 
 use crate::answers::Refusal;
 use crate::bearing::{Bearing, Contact};
+use crate::job_file::Wall;
 use crate::office::Packed;
 use crate::sheet_line::Worked;
+use crate::toe::Tip;
 use std::fmt;
 
 /// Numbers of answers: 0 for a success, 1 to 10 and 18 for refusals.
@@ -37,6 +39,9 @@ pub struct Tally {
     service: [u64; BLOCKS.len()],
     factored: [u64; BLOCKS.len()],
     bits: [u64; 8],
+    /// Walls with a toe, by the tip of a factored toe triangle and of a heel triangle.
+    toe_tips: [u64; TIPS.len()],
+    heel_tips: [u64; TIPS.len()],
 }
 
 const SHAPES: [&str; 4] = ["nothing", "whole", "toe triangle", "heel triangle"];
@@ -47,6 +52,15 @@ const BLOCKS: [&str; 5] = [
     "heel triangle",
     "none for want of moment",
     "none for its peak",
+];
+
+/// In the order of [`Tip`].
+const TIPS: [&str; 5] = [
+    "before the face",
+    "at the face",
+    "before the middle",
+    "at the middle",
+    "past the middle",
 ];
 
 fn place_of(bearing: &Bearing) -> usize {
@@ -92,6 +106,23 @@ impl Tally {
         count(&mut self.factored, place_of(&wall.factored_bearing));
         for (bit, count) in self.bits.iter_mut().enumerate() {
             *count += u64::from(wall.failures >> bit & 1);
+        }
+    }
+
+    /// Of the walls of a job whose toe is checked.
+    pub fn count_tips(&mut self, walls: &[Wall], worked: &[Worked]) {
+        for (wall, worked) in walls.iter().zip(worked) {
+            let bearing = worked.factored_bearing.given();
+            let Some(bearing) = bearing.filter(|_| worked.toe.is_some()) else {
+                continue;
+            };
+            let tips = match bearing.block.kind {
+                Contact::HeelTriangle => &mut self.heel_tips,
+                _ => &mut self.toe_tips,
+            };
+            if let Some(tip) = Tip::of(wall, bearing) {
+                count(tips, tip as usize);
+            }
         }
     }
 
@@ -149,6 +180,8 @@ impl Tally {
         add(&mut self.service, &other.service);
         add(&mut self.factored, &other.factored);
         add(&mut self.bits, &other.bits);
+        add(&mut self.toe_tips, &other.toe_tips);
+        add(&mut self.heel_tips, &other.heel_tips);
     }
 }
 
@@ -176,7 +209,7 @@ fn bits(counts: &[u64; 8]) -> String {
 
 impl Tally {
     /// The names of the table's rows, and what stands in them.
-    fn rows(&self) -> [(&'static str, String); 10] {
+    fn rows(&self) -> [(&'static str, String); 12] {
         let jobs = format!("worked {}, with {} walls", self.jobs[0], self.walls);
         let calculated = format!("worked {}", self.calculated[0]);
         let shapes = named(&SHAPES, &self.shapes);
@@ -210,6 +243,8 @@ impl Tally {
             ),
             ("service block, in walls", named(&BLOCKS, &self.service)),
             ("factored block, in walls", named(&BLOCKS, &self.factored)),
+            ("toe block's end, in toes", named(&TIPS, &self.toe_tips)),
+            ("heel block's start, in toes", named(&TIPS, &self.heel_tips)),
             ("bits set, in walls", bits(&self.bits)),
         ]
     }

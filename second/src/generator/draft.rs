@@ -31,6 +31,17 @@ impl Draft {
         }
     }
 
+    /// Adds a wall with its loads, which get its number.
+    pub fn add(&mut self, wall: RawWall, loads: &[RawLoad]) {
+        self.walls.push(wall);
+        let number = self.walls.len() as u32;
+        self.loads.extend(loads.iter().map(|load| {
+            let mut load = *load;
+            load[0] = number;
+            load
+        }));
+    }
+
     /// The six numbers that fit the records, cut to 16 bits.
     pub fn header(&self) -> [u16; 6] {
         let first_load = HEADER_BYTES + WALL_BYTES * self.walls.len();

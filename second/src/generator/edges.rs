@@ -82,7 +82,7 @@ enum Target {
 }
 
 #[derive(Clone, Copy, PartialEq, Eq)]
-enum Landing {
+pub enum Landing {
     On,
     Above,
     Below,
@@ -91,7 +91,7 @@ enum Landing {
 impl Landing {
     /// How many steps down bring a gap to 0, or to the last step above it or
     /// the first below it.
-    fn steps(self, gap: Whole, step: Whole) -> Option<Whole> {
+    pub fn steps(self, gap: Whole, step: Whole) -> Option<Whole> {
         let steps = match self {
             Landing::On if gap % step != 0 => return None,
             Landing::On => gap / step,
@@ -127,6 +127,26 @@ fn coarse_height(random: &mut Random, draft: &Draft) -> u32 {
 
 pub fn force(newtons: Whole) -> Option<u32> {
     u32::try_from(newtons).ok().filter(|n| *n <= MOST_LOAD)
+}
+
+/// Adds loads across that come to so many steps, where a N of dead load is 7 steps
+/// for each mm above `foot`, and of live load 8. All but the last stand at `height`
+/// above it.
+pub fn push_across(draft: &mut Draft, foot: u32, height: u32, steps: Whole) -> Option<()> {
+    let mut left = steps;
+    // Dead and live alike; 56 steps or more are left for the last load.
+    let a_newton = 15 * Whole::from(height);
+    while left >= a_newton + 56 && draft.loads.len() + 1 < MOST_LOADS_A_WALL {
+        let most = (left - 56) / a_newton;
+        let each = force(most.min(Whole::from(MOST_LOAD)))?;
+        draft.loads.push([1, ACROSS, foot + height, each, each]);
+        left -= Whole::from(each) * a_newton;
+    }
+    let live = left % 7;
+    let dead = (left - 8 * live) / 7;
+    let last = [1, ACROSS, foot + 1, force(dead)?, force(live)?];
+    draft.loads.push(last);
+    Some(())
 }
 
 /// Brings the service M6 down with horizontal loads: 6 sixths a N mm.

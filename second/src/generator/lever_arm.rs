@@ -1,12 +1,12 @@
 //! Jobs whose lever arm turns: the moment of the stem or of the toe stands on an
 //! edge of the rule for Z, or a N mm past it.
 
-use super::draft::{ends, typical_wall, wide_wall, Draft, ACROSS, DOWN};
-use super::edges::{force, worked, MOST_TRIES};
+use super::draft::{ends, typical_wall, wide_wall, Draft, DOWN};
+use super::edges::{push_across, worked, MOST_TRIES};
 use super::{Due, Sample};
 use crate::bearing::{Bearing, Case};
 use crate::forces::factored_totals;
-use crate::job_file::{field, RawWall, Reinforcement, Wall, BARS, MOST_LOAD, MOST_LOADS_A_WALL};
+use crate::job_file::{field, RawWall, Reinforcement, Wall, BARS};
 use crate::random::Random;
 use crate::rounding::{down, up};
 use crate::section::{
@@ -121,21 +121,7 @@ fn push_stem(random: &mut Random, draft: &mut Draft, more: Whole) -> Option<()> 
     let wall = draft.walls[0];
     let (base, stem) = (wall[field::BASE_THICKNESS], wall[field::STEM_HEIGHT]);
     let height = random.between(stem / 2, stem);
-    let mut fifths = 5 * more;
-    // Dead and live alike; 56 fifths or more are left for the last load.
-    let a_newton = 15 * Whole::from(height);
-    while fifths >= a_newton + 56 && draft.loads.len() + 1 < MOST_LOADS_A_WALL {
-        let most = (fifths - 56) / a_newton;
-        let each = force(most.min(Whole::from(MOST_LOAD)))?;
-        draft.loads.push([1, ACROSS, base + height, each, each]);
-        fifths -= Whole::from(each) * a_newton;
-    }
-    let live = fifths % 7;
-    let dead = (fifths - 8 * live) / 7;
-    draft
-        .loads
-        .push([1, ACROSS, base + 1, force(dead)?, force(live)?]);
-    Some(())
+    push_across(draft, base, height, 5 * more)
 }
 
 /// Loads tried at the end of a toe, N/m live.

@@ -1,5 +1,6 @@
 //! Seeded job files: the same seed gives the same files everywhere.
 
+mod contact_end;
 pub mod draft;
 mod edges;
 mod lever_arm;
@@ -33,7 +34,7 @@ pub type Maker = fn(&mut Random, usize) -> Sample;
 
 /// A kind's place is part of its seed, so that a new one comes last and leaves the
 /// jobs of the others as they were.
-pub const KINDS: [(&str, Maker); 29] = [
+pub const KINDS: [(&str, Maker); 30] = [
     ("typical", valid::typical),
     ("wide", valid::wide),
     ("field-ends", valid::field_ends),
@@ -63,6 +64,7 @@ pub const KINDS: [(&str, Maker); 29] = [
     ("raw", raw::raw),
     ("refused-field", refused::one_field),
     ("lever-arm", lever_arm::lever_arm),
+    ("contact-end", contact_end::contact_end),
 ];
 
 /// The sample of a seed, a place in [`KINDS`] and an index from 0.

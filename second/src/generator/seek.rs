@@ -101,7 +101,7 @@ pub fn failure_bits(random: &mut Random, index: usize) -> Sample {
 const TURNS: [&str; 16] = [
     "toe-shear-0",
     "toe-moment-0",
-    "toe-past-contact",
+    "toe-block-ends-before-face",
     "toe-compression-steel",
     "stem-compression-steel",
     "toe-steel-needed",

@@ -1,9 +1,13 @@
 //! What several tests share. Each test takes what it needs of it.
 #![allow(dead_code)]
 
+use second::bearing::{Contact, Reported};
 use second::generator::draft::Draft;
 use second::generator::{sample, Due, Sample, KINDS};
 use second::job_file::{Job, RawWall, Wall};
+use second::rounding::up;
+use second::section::Effects;
+use second::Whole;
 
 pub const SEED: u64 = 20;
 
@@ -94,4 +98,33 @@ pub fn accepted_jobs(count: usize) -> Vec<(String, Job)> {
         .collect();
     assert!(jobs.len() > 10 * count, "only {} jobs accepted", jobs.len());
     jobs
+}
+
+/// What the ground bears under a toe by document 01 alone, before request #105: for
+/// every block a straight line from the toe on, however little of it bears.
+pub fn borne_by_line(wall: &Wall, bearing: &Reported) -> Effects {
+    let Reported { block, case, .. } = bearing;
+    let twice_l = 2 * wall.base_length();
+    let reach = 2 * block.contact.over;
+    let pressure_at = |twice_s: Whole| match block.kind {
+        Contact::Whole => {
+            let line = block.toe.over * (twice_l - twice_s) + block.heel.over * twice_s;
+            up(case.pascals() * line, twice_l * block.toe.under)
+        }
+        Contact::ToeTriangle => {
+            let into = reach - block.contact.under * twice_s;
+            up(bearing.toe * into.max(0), reach)
+        }
+        Contact::HeelTriangle => {
+            let into = reach - block.contact.under * (twice_l - twice_s);
+            up(bearing.heel * into.max(0), reach)
+        }
+    };
+    let twice_a = 2 * wall.toe + wall.stem_thickness;
+    let (at_end, at_face) = (pressure_at(0), pressure_at(2 * wall.toe));
+    let at_middle = pressure_at(twice_a);
+    Effects {
+        shear: up((at_end + at_face) * wall.toe, 2000),
+        moment: up((2 * at_end + at_middle) * twice_a * twice_a, 24_000),
+    }
 }
