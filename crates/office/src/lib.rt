@@ -142,14 +142,14 @@ pub extern "C" fn office_has_failed(failures: u8, check: u8) -> bool
     ensures { λ r. ⌜ r ≡ hasFailed checks failures check ⌝ }
 {
     match check {
-        1 => wall::has_failed(failures, Check::Slides),
-        2 => wall::has_failed(failures, Check::Overturns),
-        4 => wall::has_failed(failures, Check::OverAllowable),
-        8 => wall::has_failed(failures, Check::NoServiceBlock),
-        16 => wall::has_failed(failures, Check::NoFactoredBlock),
-        32 => wall::has_failed(failures, Check::ToeSteel),
-        64 => wall::has_failed(failures, Check::StemSteel),
-        128 => wall::has_failed(failures, Check::Sheared),
+        1 => checks::has_failed(failures, Check::Slides),
+        2 => checks::has_failed(failures, Check::Overturns),
+        4 => checks::has_failed(failures, Check::OverAllowable),
+        8 => checks::has_failed(failures, Check::NoServiceBlock),
+        16 => checks::has_failed(failures, Check::NoFactoredBlock),
+        32 => checks::has_failed(failures, Check::ToeSteel),
+        64 => checks::has_failed(failures, Check::StemSteel),
+        128 => checks::has_failed(failures, Check::Sheared),
         _ => false,
     }
 }

@@ -260,6 +260,21 @@ never-more wall b given = go (b .kind) given
     go FromHeel t = from-heel _ (t tt)
     go NoBlock t = same
 
+-- under a full block document 01's rule stands, with its roundings, and so it does under a triangle from the toe that reaches a
+pub full-as-before : (wall : Wall) (b : Block) → b .kind ≡ Full → toeBearing wall b ≡ before Full wall b
+unfolding toeBearing bearingBy before
+full-as-before wall b e = ap (λ k. bearingBy k wall b) e
+
+pub reaching-as-before : (wall : Wall) (b : Block) → b .kind ≡ FromToe → lessThan (b .contact) (stemMiddle wall) ≡ false → toeBearing wall b ≡ before FromToe wall b
+unfolding toeBearing bearingBy before
+reaching-as-before wall b e h = ap (λ k. bearingBy k wall b) e ∙ rw h
+
+-- else what a triangle bears is rounded once: it is enough, and less than one newton too much
+pub rounded-once : (bearing : Fraction) → let per = perPressure * aboveZero (bearing .under) in 0 < per
+    → (aboveZero (bearing .over) ≤ inNewtons bearing * per) × (inNewtons bearing * per < aboveZero (bearing .over) + per)
+unfolding inNewtons
+rounded-once bearing h = (up-enough _ h, up-tight _ h)
+
 -- ---- where the contact ends at a
 
 module _ (P p q lt : ℕ) (hp : 0 < p) (hq : 0 < q) where

@@ -4,6 +4,3 @@ use Rattle.wall.proofs as wall
 
 pub line : Once wall.line.ended wall.line.Reads.Asked wall.line.Reads.Learnt
 line = (λ _ _. tt, λ _ _ _ _ _ _. by-equation)
-
-pub has-failed : Once wall.has_failed.ended wall.has_failed.Reads.Asked wall.has_failed.Reads.Learnt
-has-failed = (λ _ _. tt, λ _ _ _ _ _ _. by-equation)

@@ -1,5 +1,4 @@
 // Document 01, "The sheet line": one wall under its loads, worked to the sixteen numbers of its line.
-mod checks;
 mod members;
 mod pressure;
 mod sections;
@@ -9,7 +8,6 @@ mod triangle;
 use record::Loads;
 use record::Wall;
 use rules::Borne;
-use rules::Check;
 use rules::LINE;
 use rules::LineNumbers;
 use rules::WallLine;
@@ -19,7 +17,7 @@ ghost use lib.Dec.{T};
 ghost use lib.IntN.{natAbs};
 ghost use Rattle.whole.proofs.Lists.{All};
 ghost use Rattle.rules.specs.JobFile.{wallFits};
-ghost use Rattle.rules.specs.SheetLine.{isSet, numbersBy};
+ghost use Rattle.rules.specs.SheetLine.{numbersBy};
 ghost use Rattle.rules.specs.Beyond.{lineOf};
 ghost use Rattle.rules.proofs.Sizes.{Small};
 ghost use Rattle.wall.specs.Working.{Bears, workedOver};
@@ -88,11 +86,4 @@ pub fn line(number: u32, wall: Wall, loads: Loads) -> WallLine
         answer: answer,
         numbers: numbers_of(number, wall, worked(wall, borne)),
     }
-}
-
-// Does a byte of failures, as a line has it, have a check's bit?
-pub fn has_failed(failures: u8, check: Check) -> bool
-    ensures { λ r. ⌜ r ≡ isSet failures check ⌝ }
-{
-    (failures >> checks::shift_of(check)) & 1 == 1
 }

@@ -1,5 +1,4 @@
 // Document 01, "Toe and stem": the toe and the stem of a wall that fits, each with what acts on it and what its section makes of that.
-use crate::checks;
 use crate::sections;
 use crate::toe;
 use record::TOE_LENGTH;

@@ -14,13 +14,13 @@ ghost use lib.Dec.{ltb};
 ghost use lib.Signed.{ltZ};
 ghost use Rattle.rules.specs.JobFile.{allowableBearing};
 ghost use Rattle.rules.specs.Bearing.{isGiven};
-ghost use Rattle.rules.specs.SheetLine.{bit, failuresBy};
+ghost use Rattle.rules.specs.SheetLine.{bit, isSet, failuresBy};
 
 // N/m2 in a kN/m2.
 const PER_KILO: u64 = 1000;
 
 // How far to the left a check's bit stands.
-pub fn shift_of(check: Check) -> u32
+fn shift_of(check: Check) -> u32
     ensures { λ r. ⌜ (2 ^ r ≡ bit check) × (r < 8) ⌝ }
 {
     match check {
@@ -98,4 +98,11 @@ pub fn failures_of(wall: Wall, worked: WorkedWall) -> u8
     let failures = with_check(failures, Check::ToeSteel, worked.toe.steel.fails);
     let failures = with_check(failures, Check::StemSteel, worked.stem.steel.fails);
     with_check(failures, Check::Sheared, sheared)
+}
+
+// Does a byte of failures, as a line has it, have a check's bit?
+pub fn has_failed(failures: u8, check: Check) -> bool
+    ensures { λ r. ⌜ r ≡ isSet failures check ⌝ }
+{
+    (failures >> shift_of(check)) & 1 == 1
 }

@@ -1,10 +1,10 @@
--- `wall::has_failed` meets its contract: the mask takes the lowest digit of what is shifted.
+-- `checks::has_failed` meets its contract: the mask takes the lowest digit of what is shifted.
 use Prim.Native.Nat.{_/_, _^_}
 use borrow.Author.Needs.{needs}
 use lib.Bits.{and-mask}
 use Rattle.rules.specs.SheetLine.{isSet}
-use Rattle.wall.proofs.has_failed.Statement.{statement}
-use Rattle.wall.proofs.has_failed.Tie as tie
+use Rattle.checks.proofs.has_failed.Statement.{statement}
+use Rattle.checks.proofs.has_failed.Tie as tie
 
 returns : tie.Need-returns
 unfolding isSet

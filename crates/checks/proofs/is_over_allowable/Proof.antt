@@ -1,7 +1,7 @@
--- `wall::checks::is_over_allowable` meets its contract: the greater of the pressures is compared.
+-- `checks::is_over_allowable` meets its contract: the greater of the pressures is compared.
 use borrow.Author.Needs.{needs}
-use Rattle.wall.proofs.checks.is_over_allowable.Statement.{statement}
-use Rattle.wall.proofs.checks.is_over_allowable.Tie as tie
+use Rattle.checks.proofs.is_over_allowable.Statement.{statement}
+use Rattle.checks.proofs.is_over_allowable.Tie as tie
 
 returns : tie.Need-returns
 returns c = cc

@@ -1,9 +1,9 @@
--- `wall::checks::failures_of` meets its contract: the bits add up in the order of the checks.
+-- `checks::failures_of` meets its contract: the bits add up in the order of the checks.
 use native.Mathlib.Omega.{arith}
 use borrow.Author.Needs.{needs}
 use Rattle.rules.specs.SheetLine.{failsBy, bitsAmong, failuresBy}
-use Rattle.wall.proofs.checks.failures_of.Statement.{statement}
-use Rattle.wall.proofs.checks.failures_of.Tie as tie
+use Rattle.checks.proofs.failures_of.Statement.{statement}
+use Rattle.checks.proofs.failures_of.Tie as tie
 
 -- where every check is set, the tests lie eight steps back
 abbrev tests : tie.After-with-check8 → tie.After-is-sheared

@@ -1,12 +1,12 @@
--- `wall::checks::with_check` meets its contract: the shifted bit stands to the left of all that are set, so it is added.
+-- `checks::with_check` meets its contract: the shifted bit stands to the left of all that are set, so it is added.
 use Prim.Native.Nat.{_<_, _^_}
 use native.Mathlib.Omega.{arith}
 use borrow.Author.Needs.{needs}
 use lib.Bits.{or-shifted-r}
 use lib.Dec.{lit<}
 use lib.Pow.{shl-exact}
-use Rattle.wall.proofs.checks.with_check.Statement.{statement}
-use Rattle.wall.proofs.checks.with_check.Tie as tie
+use Rattle.checks.proofs.with_check.Statement.{statement}
+use Rattle.checks.proofs.with_check.Tie as tie
 
 returns : tie.Need-returns
 returns c =
