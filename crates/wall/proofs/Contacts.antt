@@ -59,8 +59,8 @@ module _ {wall : Wall} {pressed : Pressed} (bears : Bears wall pressed) {p q : �
         rw (over, under)
         (stood (rw (reports factoredScale (bears .reports) .1) (reported-most (bears .pressable) .1)) (bears .pressable .contact) (touching told tt))
 
-    pub on-base : p ≤ baseLength wall * q
-    on-base = rw (over, under) (based (touching told tt))
+    pub on-base : {l : ℕ} → l ≡ baseLength wall → p ≤ l * q
+    on-base long = rw (long, over, under) (based (touching told tt))
 
     pub begun : bearingBy FromHeel wall (pressed .block) ≡ begunBearing wall (pressed .heel) (fraction p q)
     unfolding bearingBy

@@ -128,23 +128,14 @@ fn over_heel_triangle(wall: Wall, pressed: Pressed) -> Action
     requires { ⌜ T (wallFits wall) × Bears wall pressed × (pressed .block .kind ≡ FromHeel) ⌝ }
     ensures { λ r. ⌜ r ≡ bearingBy FromHeel wall (pressed .block) ⌝ }
 {
-    let l = record::base_length(wall);
+    let peak = pressed.heel;
     let contact = pressure::parts_of(pressed.block.contact);
+    let l = record::base_length(wall);
+    let lt = record::field(wall, TOE_LENGTH);
+    let arm = twice_arm(wall);
     Action {
-        shear: triangle::begun_shear(
-            pressed.heel,
-            contact.over,
-            contact.under,
-            l,
-            record::field(wall, TOE_LENGTH),
-        ),
-        moment: triangle::begun_moment(
-            pressed.heel,
-            contact.over,
-            contact.under,
-            l,
-            twice_arm(wall),
-        ),
+        shear: triangle::begun_shear(peak, contact.over, contact.under, l, lt),
+        moment: triangle::begun_moment(peak, contact.over, contact.under, l, arm),
     }
 }
 
