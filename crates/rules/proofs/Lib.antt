@@ -30,4 +30,5 @@ pub mod Rewritten
 pub mod Roundings
 pub mod Sections
 pub mod Sizes
+pub mod ToeBearing
 pub mod Triangles

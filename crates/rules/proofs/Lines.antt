@@ -31,7 +31,7 @@ use Rattle.rules.proofs.Examined.{AllFit, Fit}
 use Rattle.rules.proofs.Bits.{one-byte}
 use Rattle.rules.proofs.Pressures.{Pressable, WithinPeak, given-most, factored-pressable, reported-most, scaled-most, line-most}
 use Rattle.rules.proofs.Sections.{toe-workable, stem-workable, required-most}
-use Rattle.rules.proofs.Triangles.{before, never-more}
+use Rattle.rules.proofs.ToeBearing.{before, never-more}
 use Rattle.rules.proofs.Sizes.{Sound, push, pushes-sound, stem-face, Small, Moderate, each, row-at, column-moderate, service-sized}
 
 -- a member's figures are small

@@ -3,26 +3,20 @@ use mathlib.Core.Path.{_≡_, ap, _∙_}
 use Prim.Native.Nat.{ℕ, _+_, _-_, _*_, _≤_, _<_, _^_}
 use native.Mathlib.Nat.{mul-pos, mul-le-mul, mul-le-mul-left, mul-le-mul-right}
 use native.Mathlib.Omega.{arith}
-use lib.IntN.{pos}
 use Rattle.whole.specs.Parts.{aboveZero}
 use Rattle.whole.specs.Rounding.{roundedUp}
-use Rattle.whole.proofs.Integer.{above-minus, nonneg-aboveZero}
+use Rattle.whole.proofs.Integer.{nonneg-aboveZero}
 use Rattle.whole.proofs.Rounded.{up-least, up-alike}
 use Rattle.rules.specs.declared.Action.{Action}
 use Rattle.rules.specs.declared.Kind.the-variants.{Full}
 use Rattle.rules.specs.declared.Block.{Block}
 use Rattle.rules.specs.JobFile.{Wall, toeLength}
 use Rattle.rules.specs.Bearing.{factoredScale, reported, greatestPeak}
-use Rattle.rules.specs.ToeAndStem.{scaled, onLine, twiceArm, straightShear, straightMoment, straight}
+use Rattle.rules.specs.ToeAndStem.{onLine, twiceArm, straightShear, straightMoment, straight}
 use Rattle.rules.proofs.Accepted.{longest}
 use Rattle.rules.proofs.Pressures.{Pressable}
-use Rattle.wall.specs.Working.{fraction}
 
--- a peak is scaled by what twice the contact has left, and is no more than before
-pub whole-scaled : (peak twice p q : ℕ) → scaled peak (fraction p q) twice ≡ roundedUp (peak * (2 * p - q * twice)) (2 * p)
-unfolding scaled
-whole-scaled peak twice p q = rw (above-minus (pos (2 * p)) (q * twice))
-
+-- a peak scaled is no more than before
 pub scaled-within : (peak twice p q : ℕ) → roundedUp (peak * (2 * p - q * twice)) (2 * p) ≤ peak
 scaled-within peak twice p q = up-least (2 * p) (mul-le-mul-left peak (let k : 2 * p - q * twice ≤ 2 * p = omega arith in k))
 

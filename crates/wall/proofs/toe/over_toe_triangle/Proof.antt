@@ -7,10 +7,10 @@ use Rattle.rules.specs.Bearing.{greatestPeak}
 use Rattle.rules.specs.ToeAndStem.{scaled, straight, endedBearing}
 use Rattle.rules.proofs.Accepted.{wall-within, longest}
 use Rattle.rules.proofs.Lines.{arm-most}
-use Rattle.rules.proofs.Triangles.{scaled-start}
+use Rattle.rules.proofs.Triangles.{scaled-is, scaled-start}
 use Rattle.wall.specs.Working.{fraction, Stands}
 use Rattle.wall.proofs.Contacts.{toe-stands, ended, reached, ended-action}
-use Rattle.wall.proofs.Exact.{whole-scaled, scaled-within, straight-action}
+use Rattle.wall.proofs.Exact.{scaled-within, straight-action}
 use Rattle.wall.proofs.Widths.{length-fits, scale-fits}
 use Rattle.wall.proofs.toe.over_toe_triangle.Statement.{statement}
 use Rattle.wall.proofs.toe.over_toe_triangle.Tie as tie
@@ -61,8 +61,8 @@ returns-2 c =
     let s = stands test in
     let peak = start test .args .pressed .toe in
     straight-action (start test .args .wall) (scaled peak (fraction (parts test .parts-of .result .over) (parts test .parts-of .result .under)))
-    (test .before .before .before .field .ensures .0) arm (sym (scaled-start peak _ _ (s .over-some) (s .under-some)))
-    (c .before .before .scaled-peak .ensures ∙ sym (whole-scaled peak _ _ _)) (c .before .scaled-peak2 .ensures ∙ sym (whole-scaled peak _ _ _)) (c .straight .ensures)
+    (test .before .before .before .field .ensures .0) arm (sym (scaled-start peak _ _ (s .over-some)))
+    (c .before .before .scaled-peak .ensures ∙ sym (scaled-is peak _ _ _)) (c .before .scaled-peak2 .ensures ∙ sym (scaled-is peak _ _ _)) (c .straight .ensures)
     ∙ sym (reached (start test .pre .1) (parts test .parts-of .ensures .0) (parts test .parts-of .ensures .1) (start test .pre .2) (rw (← arm) (omega arith)))
 
 pub over-toe-triangle-spec : {M : Type 1} → statement M
