@@ -1,4 +1,5 @@
-// Document 01, "Toe and stem": what a section makes of the action on it, by rules that are one for every section.
+// Document 01, "Toe and stem": a wall's sections, and what a section makes of the action on it, by rules that are one for every section.
+pub mod of_wall;
 mod points;
 mod shear;
 mod steel;

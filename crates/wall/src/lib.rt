@@ -1,7 +1,6 @@
 // Document 01, "The sheet line": one wall under its loads, worked to the sixteen numbers of its line.
 mod members;
 mod pressure;
-mod sections;
 mod toe;
 mod triangle;
 

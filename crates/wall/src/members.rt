@@ -1,5 +1,4 @@
 // Document 01, "Toe and stem": the toe and the stem of a wall that fits, each with what acts on it and what its section makes of that.
-use crate::sections;
 use crate::toe;
 use record::TOE_LENGTH;
 use record::Wall;
@@ -55,7 +54,10 @@ pub fn toe_over(wall: Wall, factored: Pressed) -> Member
     if !checks::is_given(factored.block) {
         return no_member();
     }
-    member_of(sections::toe_section(wall), toe::toe_action(wall, factored))
+    member_of(
+        section::of_wall::toe_section(wall),
+        toe::toe_action(wall, factored),
+    )
 }
 
 // The stem under what acts on it.
@@ -63,5 +65,5 @@ pub fn stem_under(wall: Wall, action: Action) -> Member
     requires { ⌜ T (wallFits wall) ⌝ }
     ensures { λ r. ⌜ r ≡ memberUnder (stemSection wall) action ⌝ }
 {
-    member_of(sections::stem_section(wall), action)
+    member_of(section::of_wall::stem_section(wall), action)
 }

@@ -1,7 +1,7 @@
--- `wall::sections::toe_section` meets its contract.
+-- `section::of_wall::toe_section` meets its contract.
 use borrow.Author.Needs.{needs}
-use Rattle.wall.proofs.sections.toe_section.Statement.{statement}
-use Rattle.wall.proofs.sections.toe_section.Tie as tie
+use Rattle.section.proofs.of_wall.toe_section.Statement.{statement}
+use Rattle.section.proofs.of_wall.toe_section.Tie as tie
 
 pub toe-section-spec : {M : Type 1} → statement M
 toe-section-spec =

@@ -1,7 +1,7 @@
--- `wall::sections::stem_section` meets its contract.
+-- `section::of_wall::stem_section` meets its contract.
 use borrow.Author.Needs.{needs}
-use Rattle.wall.proofs.sections.stem_section.Statement.{statement}
-use Rattle.wall.proofs.sections.stem_section.Tie as tie
+use Rattle.section.proofs.of_wall.stem_section.Statement.{statement}
+use Rattle.section.proofs.of_wall.stem_section.Tie as tie
 
 pub stem-section-spec : {M : Type 1} → statement M
 stem-section-spec =
