@@ -58,6 +58,7 @@ straight wall p =
 
 -- ---- what bears on it by the triangle that is there (#105 of document 02), of peak P and contact c: fractions, which are rounded up once
 
+-- a whole number
 abbrev pub plain : ℕ → Fraction
 plain n = overOne (pos n)
 
@@ -83,21 +84,23 @@ begunMoment P c z a =
     let covered = minus a z in
     cond (lessThan z a) (dividedBy (times P (times covered (times covered covered))) (times (plain 6) c)) (plain 0)
 
--- in N and N mm
+-- pressures over lengths in N, over areas in N mm: the one rounding
 unfoldable pub inNewtons : Fraction → ℕ
 inNewtons bearing = roundedUp (aboveZero (bearing .over)) (perPressure * aboveZero (bearing .under))
 
--- lt and a
+-- lt and a: where the stem begins, and its middle
 abbrev pub stemFace : Wall → Fraction
 stemFace wall = plain (toeLength wall)
 
 abbrev pub stemMiddle : Wall → Fraction
 stemMiddle wall = pos (twiceArm wall) over pos 2
 
+-- both figures, of a triangle from the toe that ends before a
 unfoldable pub endedBearing : Wall → ℕ → Fraction → Action
 endedBearing wall peak c =
     record { shear = inNewtons (endedShear (plain peak) c (stemFace wall)); moment = inNewtons (endedMoment (plain peak) c (stemMiddle wall)) }
 
+-- and of one from the heel, which begins at z = l - c
 unfoldable pub begunBearing : Wall → ℕ → Fraction → Action
 begunBearing wall peak c =
     let z = minus (plain (baseLength wall)) c in
