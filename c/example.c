@@ -1,6 +1,6 @@
 /*
- * Prints each wall's verdict, the sheet, and the drawing of wall 1 of a job file, and how it is written again, with other figures of wall 1
- * too; or why it is refused:
+ * Prints each wall's verdict and steel, the sheet, and the drawing of wall 1 of a job file, and how it is written again, with other figures of
+ * wall 1 too; or why it is refused:
  *
  *     cc -std=c99 -Wall -Wextra -pedantic -o example c/example.c target/staticlib/liboffice.a
  *     ./example jobs/case-a.job
@@ -75,6 +75,13 @@ static void print_verdict(const int64_t *line)
     printf("%s\n", failures == 0 ? " passes" : "");
 }
 
+/* Areas are in hundredths of mm2, and are never negative. */
+static void print_steel(const int64_t *line)
+{
+    long toe = (long)line[OFFICE_LINE_TOE_STEEL], stem = (long)line[OFFICE_LINE_STEM_STEEL];
+    printf("steel required: toe %ld.%02ld mm2, stem %ld.%02ld mm2\n", toe / 100, toe % 100, stem / 100, stem % 100);
+}
+
 static void print_drawing(uint32_t shape)
 {
     printf("wall 1: R %.3f kN, %.1f mm from the toe; H %.3f kN; ", figures[OFFICE_FIGURE_R], figures[OFFICE_FIGURE_DISTANCE], figures[OFFICE_FIGURE_H]);
@@ -110,8 +117,10 @@ int main(int count, char **words)
     uint64_t answer = office_calculate(job, length, numbers, OFFICE_LINE_NUMBERS * OFFICE_MOST_WALLS);
     if (office_answer_number(answer) != OFFICE_WORKED)
         return refused(answer);
-    for (size_t i = 0; i < office_wall_count(job); i++)
+    for (size_t i = 0; i < office_wall_count(job); i++) {
         print_verdict(numbers + OFFICE_LINE_NUMBERS * i);
+        print_steel(numbers + OFFICE_LINE_NUMBERS * i);
+    }
 
     fwrite(text, 1, office_text(job, length, text, sizeof text), stdout);
 

@@ -84,7 +84,8 @@ static inline uint32_t office_answer_field(uint64_t answer)
 
 /* ---- the sheet in numbers */
 
-/* Where each number of a line stands. Forces, moments and steel are per metre run. */
+/* Where each number of a line stands. Forces, moments and steel are per metre run. An area is in
+   hundredths of mm2: 89165 is 891.65 mm2. */
 enum office_line {
     OFFICE_LINE_WALL,         /* the wall's number */
     OFFICE_LINE_FAILURES,     /* the checks that it fails, a bit each */
@@ -98,10 +99,10 @@ enum office_line {
     OFFICE_LINE_FACTORED_HEEL,
     OFFICE_LINE_TOE_SHEAR,    /* N */
     OFFICE_LINE_TOE_MOMENT,   /* N mm */
-    OFFICE_LINE_TOE_STEEL,    /* area required, mm2 */
+    OFFICE_LINE_TOE_STEEL,    /* area required, in hundredths of mm2 */
     OFFICE_LINE_STEM_SHEAR,   /* N */
     OFFICE_LINE_STEM_MOMENT,  /* N mm */
-    OFFICE_LINE_STEM_STEEL    /* area required, mm2 */
+    OFFICE_LINE_STEM_STEEL    /* area required, in hundredths of mm2 */
 };
 
 /* The bits of OFFICE_LINE_FAILURES. No other bit is ever set, and a wall with none passes. */

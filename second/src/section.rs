@@ -1,7 +1,8 @@
-//! Document 01, "Toe and stem": shear, moment, steel and the shear check. What the
-//! ground bears under the toe is worked in [`toe`](crate::toe).
+//! Document 01, "Toe and stem": shear, moment, steel and the shear check; document 02,
+//! "#106 Steel to the hundredth". What the ground bears under the toe is worked in
+//! [`toe`](crate::toe).
 //!
-//! V in N and M in N mm, both per metre run.
+//! V in N, M in N mm and steel in hundredths of mm2, all per metre run.
 
 use crate::bearing::Reported;
 use crate::forces::{load_components, pushes, Action, Component};
@@ -92,26 +93,37 @@ pub fn twice_lever_arm(moment: Whole, d: Whole, fcu: Whole) -> Option<Whole> {
         .find(|z| moment <= moment_borne(*z, d, fcu))
 }
 
-/// mm2 per metre for the moment, rounded up.
+/// Hundredths of mm2 for the moment, rounded up: M / (0.87 fy Z / 2) is in mm2. Where
+/// there is an arm, M is at most [`greatest_moment`], so that 20000 M is below 2^49.
 pub fn needed_steel(moment: Whole, fy: Whole, z: Whole) -> Whole {
-    up(200 * moment, 87 * fy * z)
+    up(20_000 * moment, 87 * fy * z)
 }
 
-/// mm2 per metre whatever the moment, rounded up; the percentage is in
-/// hundredths.
+/// Whether that is whole before it is rounded.
+pub fn needed_is_exact(moment: Whole, fy: Whole, z: Whole) -> bool {
+    20_000 * moment % (87 * fy * z) == 0
+}
+
+/// The needed steel at a depth; `None` where compression steel would be needed.
+pub fn needed_at_depth(moment: Whole, d: Whole, fcu: Whole, fy: Whole) -> Option<Whole> {
+    twice_lever_arm(moment, d, fcu).map(|z| needed_steel(moment, fy, z))
+}
+
+/// Hundredths of mm2 whatever the moment, exact. The percentage is in hundredths, so
+/// that one of them is a ten-thousandth of 1000 mm x thickness.
 pub fn least_steel(percentage: Whole, thickness: Whole) -> Whole {
-    up(percentage * 1000 * thickness, 10_000)
+    10 * percentage * thickness
 }
 
 /// Area of one bar in hundredths of mm2, in the order of [`BARS`].
 const BAR_AREAS: [Whole; 8] = [5026, 7853, 11309, 20106, 31415, 49087, 80424, 125_663];
 
-/// mm2 per metre put in, rounded down; 0 for a bar that isn't made.
+/// Hundredths of mm2 put in, rounded down; 0 for a bar that isn't made.
 pub fn provided_steel(bar: Whole, spacing: Whole) -> Whole {
     BARS.iter()
         .zip(BAR_AREAS)
         .find(|(size, _)| Whole::from(**size) == bar)
-        .map_or(0, |(_, area)| down(area * 1000, 100 * spacing))
+        .map_or(0, |(_, area)| down(area * 1000, spacing))
 }
 
 /// Whether V passes all three limits of stress; 2V over 1000 D is the stress
@@ -122,7 +134,8 @@ pub fn shear_passes(shear: Whole, d: Whole, stress: Whole, fcu: Whole) -> bool {
     twice < stress * d && twice <= 5000 * d && 100 * twice * twice <= 64 * fcu * area * area
 }
 
-/// All that is worked for the toe or for the stem.
+/// All that is worked for the toe or for the stem; the four areas in hundredths of
+/// mm2.
 #[derive(Clone, Copy, Debug, PartialEq, Eq)]
 pub struct Section {
     pub effects: Effects,
@@ -135,6 +148,24 @@ pub struct Section {
     pub provided: Whole,
     pub steel_fails: bool,
     pub shear_fails: bool,
+}
+
+impl Section {
+    /// Whether the cage is just what is required, which is enough.
+    pub fn is_even(&self) -> bool {
+        self.lever_arm.is_some() && self.provided == self.required
+    }
+
+    /// Whether the cage fails for want of a hundredth of a mm2.
+    pub fn is_hundredth_short(&self) -> bool {
+        self.lever_arm.is_some() && self.provided + 1 == self.required
+    }
+
+    /// Whether the cage is enough, and wasn't before request #106: in whole mm2 what is
+    /// required goes up and what is provided down.
+    pub fn failed_in_mm2(&self) -> bool {
+        !self.steel_fails && down(self.provided, 100) < up(self.required, 100)
+    }
 }
 
 /// The checks of a section of the given thickness. Reading taken: where

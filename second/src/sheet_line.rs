@@ -112,7 +112,7 @@ fn failures(wall: &Wall, worked: &Worked) -> u8 {
 }
 
 impl Worked {
-    /// The numbers in the line's order.
+    /// The numbers in the line's order; the two areas in hundredths of mm2.
     pub fn numbers(&self) -> [Whole; LINE_NUMBERS] {
         let (toe, heel) = self.service_bearing.pressures();
         let (factored_toe, factored_heel) = self.factored_bearing.pressures();

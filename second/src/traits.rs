@@ -5,7 +5,10 @@ use crate::bearing::{Bearing, Contact, Reported, GREATEST_PEAK};
 use crate::forces::{passive_depth, Totals};
 use crate::job_file::{Direction, Job, Load, Wall};
 use crate::rounding::{down, up};
-use crate::section::{greatest_arm, greatest_moment, moment_borne, shear_passes, Section};
+use crate::section::{
+    greatest_arm, greatest_moment, moment_borne, needed_at_depth, needed_is_exact, shear_passes,
+    Section,
+};
 use crate::sheet_line::{work_wall, Worked};
 use crate::toe::{rounding_at_face_shows, Tip};
 use crate::Whole;
@@ -166,6 +169,20 @@ pub const VOCABULARY: &[&str] = &[
     "heel-block-starts-before-middle",
     "heel-block-starts-at-middle",
     "heel-block-starts-past-middle",
+    // Steel where a hundredth of a mm2 decides.
+    "toe-steel-failed-in-mm2",
+    "stem-steel-failed-in-mm2",
+    "toe-steel-hundredth-short",
+    "stem-steel-hundredth-short",
+    "toe-needed-not-whole",
+    "stem-needed-not-whole",
+    "toe-least-not-whole",
+    "stem-least-not-whole",
+    "toe-least-even",
+    "stem-least-even",
+    "stem-steel-last-moment",
+    "stem-steel-past-last-moment",
+    "stem-needed-exact",
 ];
 
 /// One line: the answer's word first, then the rest in order of the alphabet.
@@ -451,6 +468,7 @@ fn toe_words(words: &mut Words, wall: &Wall, worked: &Worked) {
         "toe-arm-worked",
     ];
     steel_words(words, toe, names);
+    hundredth_words(words, toe, TOE_HUNDREDTHS);
     if let Some(arm) = Arm::shown(toe, wall.fcu) {
         note(words, arm.is_even(), "toe-arm-even");
         note(words, arm.is_past_even(), "toe-arm-past-even");
@@ -503,6 +521,8 @@ fn stem_words(words: &mut Words, wall: &Wall, stem: &Section) {
         "stem-arm-worked",
     ];
     steel_words(words, stem, names);
+    hundredth_words(words, stem, STEM_HUNDREDTHS);
+    last_moment_words(words, wall, stem);
     if let Some(arm) = Arm::shown(stem, wall.fcu) {
         stem_arm_words(words, &arm);
     }
@@ -526,12 +546,62 @@ fn steel_words(words: &mut Words, section: &Section, names: [&'static str; 7]) {
         return;
     };
     either(words, section.needed > section.least, needed, least);
-    note(words, section.provided == section.required, even);
+    note(words, section.is_even(), even);
     either(
         words,
         arm == greatest_arm(section.twice_depth),
         capped,
         worked,
+    );
+}
+
+const TOE_HUNDREDTHS: [&str; 5] = [
+    "toe-steel-failed-in-mm2",
+    "toe-steel-hundredth-short",
+    "toe-needed-not-whole",
+    "toe-least-not-whole",
+    "toe-least-even",
+];
+const STEM_HUNDREDTHS: [&str; 5] = [
+    "stem-steel-failed-in-mm2",
+    "stem-steel-hundredth-short",
+    "stem-needed-not-whole",
+    "stem-least-not-whole",
+    "stem-least-even",
+];
+
+/// The words of a section's hundredths: enough though not in whole mm2, a hundredth
+/// short; what is required not whole mm2, and it is the needed or the least steel; the
+/// least steel just provided.
+fn hundredth_words(words: &mut Words, section: &Section, names: [&'static str; 5]) {
+    let [failed, short, needed_in_parts, least_in_parts, least_even] = names;
+    note(words, section.failed_in_mm2(), failed);
+    note(words, section.is_hundredth_short(), short);
+    let by_needed = section.needed > section.least;
+    let in_parts = section.required % 100 != 0;
+    note(words, in_parts && by_needed, needed_in_parts);
+    note(words, in_parts && !by_needed, least_in_parts);
+    note(words, section.is_even() && !by_needed, least_even);
+}
+
+/// Where the needed steel governs: a N mm more would fail, a N mm less would pass, and
+/// nothing is rounded.
+fn last_moment_words(words: &mut Words, wall: &Wall, stem: &Section) {
+    let (d, provided) = (stem.twice_depth, stem.provided);
+    let enough_for = |moment: Whole| {
+        let needed = needed_at_depth(moment, d, wall.fcu, wall.fy);
+        needed.is_some_and(|needed| needed <= provided)
+    };
+    let (by_needed, moment) = (stem.needed > stem.least, stem.effects.moment);
+    let last = by_needed && stem.is_even() && !enough_for(moment + 1);
+    note(words, last, "stem-steel-last-moment");
+    let past = by_needed && stem.is_hundredth_short() && enough_for(moment - 1);
+    note(words, past, "stem-steel-past-last-moment");
+    let exact = |z: Whole| by_needed && needed_is_exact(moment, wall.fy, z);
+    note(
+        words,
+        stem.lever_arm.is_some_and(exact),
+        "stem-needed-exact",
     );
 }
 

@@ -3,19 +3,21 @@
 
 mod common;
 
-use common::ENDS;
+use common::{steel_before, ENDS};
 use second::answers::accept;
 use second::generator::samples;
-use second::job_file::{field, read_record, RawWall};
+use second::job_file::{field, read_record, RawWall, Reinforcement, Wall};
+use second::section::Section;
+use second::sheet_line::work_job;
 use second::traits::{of, VOCABULARY};
-use second::{rewritten, sheet};
+use second::{rewritten, sheet, Whole};
 use std::collections::{BTreeMap, BTreeSet};
 use std::fs::{read, read_dir, read_to_string, File};
 use std::path::{Path, PathBuf};
 use std::process::Command;
 
 const SEED: u64 = 57;
-const COUNT: usize = 1860;
+const COUNT: usize = 1922;
 
 /// So many jobs of a kind are taken, the first ones.
 fn taken(kind: &str) -> usize {
@@ -23,6 +25,7 @@ fn taken(kind: &str) -> usize {
         "refused-field" => 62,
         "edges" | "refused-offset" => 34,
         "toe-and-stem" | "refused-wall" => 16,
+        "steel-hundredth" => 13,
         "lever-arm" | "contact-end" => 12,
         "raw" => 8,
         _ => 7,
@@ -65,7 +68,7 @@ fn the_jobs_are_the_generators_byte_for_byte() {
     for (name, bytes) in &made {
         assert!(kept[name] == *bytes, "{name} isn't what generate makes");
     }
-    assert_eq!(kept.len(), 348);
+    assert_eq!(kept.len(), 361);
 }
 
 #[test]
@@ -120,6 +123,43 @@ fn every_field_is_refused_below_and_above_its_range() {
             assert_eq!(sheet(job), refusal, "refused-field {number}");
         }
     }
+}
+
+/// Required and provided steel of a section in hundredths of mm2, and what they were
+/// before request #106 in whole mm2. It passes now and failed then.
+fn now_and_before(
+    wall: &Wall,
+    thickness: Whole,
+    bars: &Reinforcement,
+    section: &Section,
+) -> [Whole; 4] {
+    let before = steel_before(wall, thickness, bars, section.effects.moment);
+    assert!(before.fails && !section.steel_fails);
+    [
+        section.required,
+        section.provided,
+        before.required,
+        before.provided,
+    ]
+}
+
+/// The two that the README names, a stem's and a toe's.
+#[test]
+fn cages_that_failed_in_whole_mm2_pass_now() {
+    let jobs = kept();
+    let named = |name: &str, word: &str| {
+        let bytes = &jobs[name];
+        assert!(of(bytes).1.contains(word), "{name}");
+        let job = accept(bytes).unwrap();
+        (job.walls[0].clone(), work_job(&job).remove(0))
+    };
+    let (wall, worked) = named("steel-hundredth-0003.job", "stem-steel-failed-in-mm2");
+    let stem = now_and_before(&wall, wall.stem_thickness, &wall.stem_bars, &worked.stem);
+    assert_eq!(stem, [242_225, 242_240, 2423, 2422]);
+    let (wall, worked) = named("steel-hundredth-0009.job", "toe-steel-failed-in-mm2");
+    let toe = worked.toe.unwrap();
+    let toe = now_and_before(&wall, wall.base_thickness, &wall.toe_bars, &toe);
+    assert_eq!(toe, [96_301, 96_365, 964, 963]);
 }
 
 /// Every refusal, every block in service and factored, every bit set and

@@ -8,10 +8,10 @@ use second::answers::accept;
 use second::bearing::{Contact, Reported};
 use second::compare::{run, Found, Until, Wish};
 use second::generator::{numbered, samples, KINDS};
-use second::job_file::{field_in_range, read_numbers, Header, Wall, WALL_FIELDS};
+use second::job_file::{field_in_range, read_numbers, Header, Reinforcement, Wall, WALL_FIELDS};
 use second::office::{Office, Packed, Second, TEXT_ROOM};
-use second::rounding::{down, up};
-use second::section::{check_section, needed_steel, shear_passes, Effects, Section};
+use second::rounding::{down, half_up, up};
+use second::section::{check_section, provided_steel, shear_passes, Effects, Section};
 use second::sheet_line::{work_job, Worked, LINE_NUMBERS, SHEAR, STEM_STEEL, TOE_STEEL};
 use second::traits::of;
 use second::wide::quotient_up;
@@ -19,7 +19,7 @@ use second::writing::records;
 use second::Whole;
 use std::time::Duration;
 
-const JOBS: usize = 12 * KINDS.len();
+const JOBS: usize = 13 * KINDS.len();
 
 fn wish(threads: usize) -> Wish {
     Wish {
@@ -77,6 +77,24 @@ faults! {
     BearingRoundedDown,
     ExactPeak,
     WeightUnderContactAlone,
+    NeededRoundedDown,
+    NeededOneMore,
+    NeededToNearest,
+    NeededToWhole,
+    NeededInMm2,
+    LeastToWholeUp,
+    LeastToWholeDown,
+    LeastInMm2,
+    ProvidedInMm2,
+    ProvidedRoundedUp,
+    ProvidedToWhole,
+    RuleBefore,
+    RuleBeforeTimes100,
+    EqualSteelFails,
+    EqualLeastFails,
+    SteelUnrounded,
+    LeastThoughCompression,
+    CompressionPasses,
     PlaceOfLoad,
     PlaceOfLoadMultiplied,
     WallFromNought,
@@ -372,6 +390,69 @@ fn toe_checked(fault: Fault, wall: &Wall, worked: &Worked) -> Option<Section> {
     ))
 }
 
+/// What a section requires, and whether its cage fails; a step may be wrong. Areas are in
+/// hundredths of mm2.
+fn steel_checked(
+    fault: Fault,
+    wall: &Wall,
+    bars: &Reinforcement,
+    section: &Section,
+) -> (Whole, bool) {
+    let (moment, d) = (section.effects.moment, section.twice_depth);
+    let thickness = bars.cover + (d + bars.bar) / 2;
+    let least = least_of(fault, 10 * wall.least_steel * thickness);
+    let Some(z) = arm_by_root(fault, moment, d, wall.fcu) else {
+        let printed = if fault == LeastThoughCompression {
+            least
+        } else {
+            0
+        };
+        return (printed, fault != CompressionPasses);
+    };
+    let (over, under) = (20_000 * moment, 87 * wall.fy * z);
+    let (bars_of_a_metre, spacing) = (provided_steel(bars.bar, 1), bars.spacing);
+    let required = needed_of(fault, over, under).max(least);
+    let provided = provided_of(fault, bars_of_a_metre, spacing);
+    let fails = match fault {
+        EqualSteelFails => provided <= required,
+        EqualLeastFails => provided < required || provided == least,
+        SteelUnrounded => {
+            bars_of_a_metre * under < over * spacing || bars_of_a_metre < least * spacing
+        }
+        _ => provided < required,
+    };
+    (required, fails)
+}
+
+fn needed_of(fault: Fault, over: Whole, under: Whole) -> Whole {
+    match fault {
+        NeededRoundedDown => down(over, under),
+        NeededOneMore => down(over, under) + 1,
+        NeededToNearest => half_up(over, under),
+        NeededToWhole | RuleBeforeTimes100 => 100 * up(over, 100 * under),
+        NeededInMm2 | RuleBefore => up(over, 100 * under),
+        _ => up(over, under),
+    }
+}
+
+fn least_of(fault: Fault, least: Whole) -> Whole {
+    match fault {
+        LeastToWholeUp | RuleBeforeTimes100 => 100 * up(least, 100),
+        LeastToWholeDown => 100 * down(least, 100),
+        LeastInMm2 | RuleBefore => up(least, 100),
+        _ => least,
+    }
+}
+
+fn provided_of(fault: Fault, bars_of_a_metre: Whole, spacing: Whole) -> Whole {
+    match fault {
+        ProvidedInMm2 | RuleBefore => down(bars_of_a_metre, 100 * spacing),
+        ProvidedToWhole | RuleBeforeTimes100 => 100 * down(bars_of_a_metre, 100 * spacing),
+        ProvidedRoundedUp => up(bars_of_a_metre, spacing),
+        _ => down(bars_of_a_metre, spacing),
+    }
+}
+
 impl Office for Wrong {
     fn calculate(&self, job: &[u8], out: &mut [i64]) -> Packed {
         let numbers = numbers_of(job);
@@ -485,7 +566,7 @@ impl Office for Wrong {
 
 impl Wrong {
     /// The toe's V and M, both areas, and the failures that hang on them, as a wrong
-    /// bearing or a wrong lever arm gives them.
+    /// bearing, a wrong lever arm or a wrong rule for steel gives them.
     fn spoil_sections(&self, job: &[u8], out: &mut [i64]) {
         let job = accept(job).unwrap();
         let lines = out.chunks_exact_mut(LINE_NUMBERS);
@@ -494,11 +575,10 @@ impl Wrong {
             if let Some(toe) = toe_checked(self.0, wall, &worked) {
                 line[10] = toe.effects.shear as i64;
                 line[11] = toe.effects.moment as i64;
-                let stress = wall.toe_bars.concrete_shear_stress;
-                self.spoil_section(wall, &toe, stress, &mut line[1..=12], TOE_STEEL);
+                self.spoil_section(wall, &wall.toe_bars, &toe, &mut line[1..=12], TOE_STEEL);
             }
-            let stress = wall.stem_bars.concrete_shear_stress;
-            self.spoil_section(wall, &worked.stem, stress, &mut line[1..], STEM_STEEL);
+            let stem = &worked.stem;
+            self.spoil_section(wall, &wall.stem_bars, stem, &mut line[1..], STEM_STEEL);
         }
     }
 
@@ -506,21 +586,18 @@ impl Wrong {
     fn spoil_section(
         &self,
         wall: &Wall,
+        bars: &Reinforcement,
         section: &Section,
-        stress: Whole,
         line: &mut [i64],
         steel: u8,
     ) {
-        let Effects { shear, moment } = section.effects;
-        let d = section.twice_depth;
-        let arm = arm_by_root(self.0, moment, d, wall.fcu);
-        let needed = arm.map(|z| needed_steel(moment, wall.fy, z));
-        let required = needed.map_or(0, |needed| needed.max(section.least));
+        let (required, fails) = steel_checked(self.0, wall, bars, section);
         line[line.len() - 1] = required as i64;
-        if arm.is_none() || section.provided < required {
+        if fails {
             line[0] |= i64::from(steel);
         }
-        if !shear_passes(shear, d, stress, wall.fcu) {
+        let (shear, stress) = (section.effects.shear, bars.concrete_shear_stress);
+        if !shear_passes(shear, section.twice_depth, stress, wall.fcu) {
             line[0] |= i64::from(SHEAR);
         }
     }
@@ -668,8 +745,18 @@ fn nothing_differs_from_itself() {
     assert!(table.contains("| calls of records | taken apart "));
     assert!(table.contains("| calls of write | written "));
     assert!(table.contains("| toe block's end, in toes | before the face "));
-    let none = table.contains(" face 0,") || table.contains(" middle 0");
-    assert!(!none, "{table}");
+    for row in ["toe steel, in toes", "stem steel, in walls"] {
+        let start = format!("| {row} | enough though not in whole mm2 ");
+        assert!(table.contains(&start), "{table}");
+    }
+    let nones = [
+        " face 0,",
+        " middle 0",
+        " mm2 0,",
+        " hundredth 0,",
+        " short 0",
+    ];
+    assert!(nones.iter().all(|none| !table.contains(none)), "{table}");
 }
 
 #[test]
@@ -681,7 +768,7 @@ fn every_fault_is_found() {
     }
 }
 
-/// So what is found of a wrong arm, or of a wrong bearing, is due to its fault.
+/// So what is found of a wrong arm, bearing or steel is due to its fault.
 #[test]
 fn sections_with_no_step_wrong_change_nothing() {
     let mut walls = 0;
@@ -767,15 +854,17 @@ const BEARING_FAULTS: [(Fault, &[&[&str]]); 18] = [
     (WeightUnderContactAlone, &[SHORT, STARTS, STARTS_LATE]),
 ];
 
+/// The numbers of all lines.
+fn numbers(office: &dyn Office, job: &[u8]) -> Vec<i64> {
+    let mut lines = vec![0; numbers_of(job)];
+    office.calculate(job, &mut lines);
+    lines
+}
+
 /// A fault of the bearing shows only in jobs with a word of its own; and where the
 /// contact ends at the middle of the stem, in every job with the word.
 #[test]
 fn faults_of_the_bearing_show_where_its_words_stand() {
-    let numbers = |office: &dyn Office, job: &[u8]| {
-        let mut lines = vec![0; numbers_of(job)];
-        office.calculate(job, &mut lines);
-        lines
-    };
     let mut shown = [0; BEARING_FAULTS.len()];
     for (name, sample) in samples(4, JOBS) {
         let (job, words) = (&sample.bytes, of(&sample.bytes).1);
@@ -790,6 +879,74 @@ fn faults_of_the_bearing_show_where_its_words_stand() {
         }
     }
     assert!(shown.iter().all(|count| *count > 0), "{shown:?}");
+}
+
+const NEEDED: &[&str] = &["toe-steel-needed", "stem-steel-needed"];
+const LEAST: &[&str] = &["toe-steel-least", "stem-steel-least"];
+const NEEDED_NOT_WHOLE: &[&str] = &["toe-needed-not-whole", "stem-needed-not-whole"];
+const LEAST_NOT_WHOLE: &[&str] = &["toe-least-not-whole", "stem-least-not-whole"];
+const PASSES: &[&str] = &["bit-32-clear", "bit-64-clear"];
+const FAILED_IN_MM2: &[&str] = &["toe-steel-failed-in-mm2", "stem-steel-failed-in-mm2"];
+const EVEN: &[&str] = &["toe-steel-even", "stem-steel-even"];
+const LEAST_EVEN: &[&str] = &["toe-least-even", "stem-least-even"];
+const HUNDREDTH_SHORT: &[&str] = &["toe-steel-hundredth-short", "stem-steel-hundredth-short"];
+const COMPRESSION: &[&str] = &["toe-compression-steel", "stem-compression-steel"];
+
+/// Words of toe and stem, of some facts.
+type Own = &'static [&'static [&'static str]];
+
+/// Every fault of the steel, the words without which it can't show, and those beside
+/// which it always does.
+const STEEL_FAULTS: [(Fault, Own, Own); 18] = [
+    (NeededRoundedDown, &[NEEDED], &[]),
+    (NeededOneMore, &[NEEDED, LEAST], &[&["stem-needed-exact"]]),
+    (NeededToNearest, &[NEEDED], &[]),
+    (
+        NeededToWhole,
+        &[NEEDED_NOT_WHOLE, LEAST_NOT_WHOLE],
+        &[NEEDED_NOT_WHOLE],
+    ),
+    (NeededInMm2, &[NEEDED], &[]),
+    (
+        LeastToWholeUp,
+        &[LEAST_NOT_WHOLE, NEEDED_NOT_WHOLE],
+        &[LEAST_NOT_WHOLE],
+    ),
+    (LeastToWholeDown, &[LEAST_NOT_WHOLE], &[]),
+    (LeastInMm2, &[LEAST], &[]),
+    (ProvidedInMm2, &[PASSES], &[]),
+    (ProvidedRoundedUp, &[HUNDREDTH_SHORT], &[]),
+    (ProvidedToWhole, &[FAILED_IN_MM2], &[FAILED_IN_MM2]),
+    (RuleBefore, &[NEEDED, LEAST], &[]),
+    (
+        RuleBeforeTimes100,
+        &[NEEDED_NOT_WHOLE, LEAST_NOT_WHOLE],
+        &[NEEDED_NOT_WHOLE, LEAST_NOT_WHOLE],
+    ),
+    (EqualSteelFails, &[EVEN], &[EVEN]),
+    (EqualLeastFails, &[LEAST_EVEN], &[LEAST_EVEN]),
+    (SteelUnrounded, &[HUNDREDTH_SHORT], &[]),
+    (LeastThoughCompression, &[COMPRESSION], &[]),
+    (CompressionPasses, &[COMPRESSION], &[COMPRESSION]),
+];
+
+/// A fault of the steel shows only in jobs with a word of its own, and in every job with
+/// a word that hangs on nothing else.
+#[test]
+fn faults_of_the_steel_show_where_its_words_stand() {
+    let mut shown = [0; STEEL_FAULTS.len()];
+    for (name, sample) in samples(4, 3 * JOBS) {
+        let (job, words) = (&sample.bytes, of(&sample.bytes).1);
+        let stands = |own: Own| own.concat().iter().any(|word| words.contains(word));
+        let due = numbers(&Second, job);
+        for ((fault, own, always), shown) in STEEL_FAULTS.iter().zip(&mut shown) {
+            let shows = numbers(&Wrong(*fault), job) != due;
+            assert!(stands(own) || !shows, "{name}: {fault:?}");
+            assert!(shows || !stands(always), "{name}: {fault:?}");
+            *shown += usize::from(shows);
+        }
+    }
+    assert!(shown.iter().all(|count| *count >= 3), "{shown:?}");
 }
 
 #[test]
@@ -836,8 +993,9 @@ fn what_differs_in_writing_is_said() {
     let words = said(LastRecordLeftOut);
     assert!(words.starts_with(&format!("{own}place 404 of what was lent")));
     let words = said(WallOf32Numbers);
-    let changed = "write of 32 and 0 numbers (a load to the end, a number more), 136 bytes lent: ";
-    assert!(words.starts_with(&format!("{changed}the answer is (number 0")));
+    let changed = "write of 32 and 10 numbers (one wall of 32 numbers), 176 bytes lent: ";
+    let given = "the answer is (number 6, place 1, ";
+    assert!(words.starts_with(&format!("{changed}{given}")), "{words}");
     let words = said(NumberBehindLoads);
     assert!(words.starts_with("records, "), "{words}");
     assert!(

@@ -5,10 +5,11 @@ mod common;
 use common::{accepted_jobs, case_a, case_a_bytes, case_a_draft, CASE_A_LINE};
 use second::bearing::{block, Bearing, Case, Contact, Fraction};
 use second::forces::{passive_depth, passive_force, pushes};
-use second::job_file::field;
+use second::job_file::{field, Reinforcement};
 use second::rounding::{down, up};
 use second::section::{
-    needed_steel, needs_compression_steel, provided_steel, shear_passes, twice_lever_arm,
+    check_section, least_steel, needed_steel, needs_compression_steel, provided_steel,
+    shear_passes, twice_lever_arm, Effects, Section,
 };
 use second::sheet_line::{work_job, NO_SERVICE_BLOCK, OVER_ALLOWABLE, SHEAR, TOE_STEEL};
 use second::Whole;
@@ -22,13 +23,13 @@ fn p1_case_a_from_bytes_to_line() {
 #[test]
 fn p2_lever_arm_and_needed_steel() {
     assert_eq!(twice_lever_arm(232_500_000, 585, 35), Some(529));
-    assert_eq!(needed_steel(232_500_000, 500, 529), 2021);
+    assert_eq!(needed_steel(232_500_000, 500, 529), 202_073);
 }
 
 #[test]
 fn p3_provided_steel() {
-    assert_eq!(provided_steel(25, 175), 2804);
-    assert_eq!(provided_steel(12, 200), 565);
+    assert_eq!(provided_steel(25, 175), 280_497);
+    assert_eq!(provided_steel(12, 200), 56_545);
 }
 
 #[test]
@@ -130,6 +131,113 @@ fn shear_limits_at_equality() {
     assert!(!shear_passes(800_001, 400, 5000, 25));
 }
 
+/// The steel of a section with case A's strengths and 0.13 %.
+fn steel(thickness: Whole, bars: [Whole; 3], moment: Whole) -> Section {
+    let [cover, bar, spacing] = bars;
+    let bars = Reinforcement {
+        cover,
+        bar,
+        spacing,
+        concrete_shear_stress: 550,
+    };
+    check_section(&case_a(), thickness, &bars, Effects { shear: 0, moment })
+}
+
+/// Required, provided, and whether it fails.
+fn outcome(section: &Section) -> (Whole, Whole, bool) {
+    (section.required, section.provided, section.steel_fails)
+}
+
+#[test]
+fn steel_of_case_a() {
+    let sections = work_job(&case_a_draft().job());
+    let toe = sections[0].toe.unwrap();
+    assert_eq!((toe.needed, toe.least), (29_419, 39_000));
+    assert_eq!(outcome(&toe), (39_000, 56_545, false));
+    let stem = sections[0].stem;
+    assert_eq!((stem.needed, stem.least), (89_165, 39_000));
+    assert_eq!(outcome(&stem), (89_165, 134_040, false));
+}
+
+/// The toe of document 003, 350 thick with bars of 25 at 175, at the last moment that
+/// it bears and a N mm past it.
+#[test]
+fn needed_steel_at_equality() {
+    let toe = |moment| outcome(&steel(350, [45, 25, 175], moment));
+    assert_eq!(toe(309_311_054), (280_497, 280_497, false));
+    assert_eq!(toe(309_311_055), (280_498, 280_497, true));
+}
+
+#[test]
+fn least_steel_at_equality() {
+    // 0.13 % of 1000 x 321 mm2 is 417.3 mm2, and so is 113.09 mm2 at every 271 mm.
+    assert_eq!(
+        outcome(&steel(321, [40, 12, 271], 0)),
+        (41_730, 41_730, false)
+    );
+    assert_eq!(
+        outcome(&steel(322, [40, 12, 271], 0)),
+        (41_860, 41_730, true)
+    );
+    // 78.53 mm2 at every 193 mm: 406.891, of which 406.89 is left.
+    assert_eq!(
+        outcome(&steel(312, [40, 10, 193], 0)),
+        (40_560, 40_689, false)
+    );
+    assert_eq!(
+        outcome(&steel(313, [40, 10, 193], 0)),
+        (40_690, 40_689, true)
+    );
+}
+
+#[test]
+fn needed_steel_is_rounded_up_to_the_hundredth() {
+    assert_eq!(needed_steel(0, 500, 529), 0);
+    assert_eq!(needed_steel(1, 500, 529), 1);
+    // 87 x 250 x 400 is 8700000: 435 N mm to the hundredth.
+    assert_eq!(needed_steel(435, 250, 400), 1);
+    assert_eq!(needed_steel(436, 250, 400), 2);
+    assert_eq!(needed_steel(870, 250, 400), 2);
+    assert_eq!(needed_steel(43_500, 250, 400), 100);
+    assert_eq!(needed_steel(43_501, 250, 400), 101);
+}
+
+#[test]
+fn least_steel_is_exact() {
+    assert_eq!(least_steel(13, 375), 48_750);
+    assert_eq!(least_steel(1, 201), 2010);
+    assert_eq!(least_steel(0, 1500), 0);
+    for percentage in 0..=100 {
+        for thickness in 200..=1500 {
+            // Ten-thousandths of 1000 mm x thickness, in hundredths of mm2.
+            let exact = 100 * 1000 * thickness * percentage;
+            assert_eq!(10_000 * least_steel(percentage, thickness), exact);
+        }
+    }
+}
+
+#[test]
+fn provided_steel_is_rounded_down_to_the_hundredth() {
+    // 50.26 mm2 a bar: 1005.2 mm2 at every 50 mm, 985.490 at every 51.
+    assert_eq!(provided_steel(8, 50), 100_520);
+    assert_eq!(provided_steel(8, 51), 98_549);
+    assert_eq!(provided_steel(40, 500), 251_326);
+    assert_eq!(provided_steel(10, 200), 39_265);
+}
+
+/// A N mm past the most that the concrete takes (P9): the area is 0, whatever the least
+/// steel, and fails though there is more.
+#[test]
+fn where_compression_steel_would_be_needed_the_area_is_0_and_fails() {
+    let last = steel(300, [40, 12, 50], 352_257_360);
+    assert_eq!(last.twice_depth, 508);
+    // 20000 x 352257360 / (87 x 500 x 394) is 411059.4.
+    assert_eq!(outcome(&last), (411_060, 226_180, true));
+    let past = steel(300, [40, 12, 50], 352_257_361);
+    assert_eq!((past.lever_arm, past.least), (None, 39_000));
+    assert_eq!(outcome(&past), (0, 226_180, true));
+}
+
 /// Worked apart from this program, in metres with fractions: a propped wall of
 /// odd thickness with water above its base and loads of every direction.
 #[test]
@@ -152,7 +260,7 @@ fn a_wet_loaded_wall() {
     assert_eq!(second::sheet(&draft.bytes()), WET_LINE);
 }
 
-const WET_LINE: &str = "1 00 165136 53228 21763 971516655 105193 35289 194408 6825 82191 37955588 390 89040 97353804 779\n";
+const WET_LINE: &str = "1 00 165136 53228 21763 971516655 105193 35289 194408 6825 82191 37955588 39000 89040 97353804 77845\n";
 
 #[test]
 fn without_a_toe_or_a_factored_block_no_toe_check_is_made() {

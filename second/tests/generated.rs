@@ -2,7 +2,7 @@
 
 mod common;
 
-use common::{samples_of_each_kind, SEED};
+use common::{samples_of_each_kind, steel_before, SEED};
 use second::answers::accept;
 use second::bearing::Contact::{self, HeelTriangle, ToeTriangle};
 use second::generator::draft::ends;
@@ -36,7 +36,7 @@ fn the_bytes_of_a_seed_stay_what_they_were() {
             sum = (sum ^ u64::from(byte)).wrapping_mul(0x0100_0000_01b3);
         }
     }
-    assert_eq!(sum, 0x259c_430d_747d_d16d);
+    assert_eq!(sum, 0x5465_68b1_da5a_ffe0);
 }
 
 #[test]
@@ -232,6 +232,48 @@ fn a_triangle_comes_to_nothing_at_every_place() {
         let rounded = triangle == ToeTriangle && tips.contains(&AtMiddle);
         let word = of(&bytes).1.contains("toe-rounding-at-middle");
         assert_eq!(word, rounded);
+    }
+}
+
+/// The words of each turn of `steel-hundredth`.
+const STEEL_TURNS: [&[&str]; 13] = [
+    &["stem-steel-needed", "stem-steel-last-moment"],
+    &["stem-steel-needed", "stem-steel-past-last-moment"],
+    &["stem-needed-not-whole", "stem-steel-failed-in-mm2"],
+    &["stem-steel-least", "stem-least-even"],
+    &["stem-steel-least", "stem-steel-hundredth-short"],
+    &["stem-least-not-whole", "stem-steel-failed-in-mm2"],
+    &["toe-steel-needed", "toe-steel-even"],
+    &["toe-steel-needed", "toe-steel-hundredth-short"],
+    &["toe-needed-not-whole", "toe-steel-failed-in-mm2"],
+    &["toe-steel-least", "toe-least-even"],
+    &["toe-steel-least", "toe-steel-hundredth-short"],
+    &["toe-least-not-whole", "toe-steel-failed-in-mm2"],
+    &["stem-needed-exact", "stem-steel-last-moment"],
+];
+
+/// And the cage does what it would not have done in whole mm2, or for a hundredth more.
+#[test]
+fn a_hundredth_of_steel_decides_in_every_way() {
+    for index in 0..4 * STEEL_TURNS.len() {
+        let turn = index % STEEL_TURNS.len();
+        let bytes = sample(SEED, kind("steel-hundredth"), index).bytes;
+        let words = of(&bytes).1;
+        let met = STEEL_TURNS[turn].iter().all(|word| words.contains(word));
+        assert!(met, "steel-hundredth of index {index}: {words:?}");
+        let job = accept(&bytes).unwrap();
+        let (wall, worked) = (&job.walls[0], work_job(&job).remove(0));
+        let (section, thickness, bars) = match turn {
+            0..6 | 12 => (worked.stem, wall.stem_thickness, &wall.stem_bars),
+            _ => (worked.toe.unwrap(), wall.base_thickness, &wall.toe_bars),
+        };
+        let before = steel_before(wall, thickness, bars, section.effects.moment);
+        let spare = section.provided - section.required;
+        match turn % 3 {
+            0 => assert_eq!((spare, section.steel_fails), (0, false)),
+            1 => assert_eq!((spare, section.steel_fails), (-1, true)),
+            _ => assert_eq!((before.fails, section.steel_fails), (true, false)),
+        }
     }
 }
 

@@ -13,6 +13,7 @@ pub mod Doubles
 pub mod Drawings
 pub mod Examined
 pub mod Fitting
+pub mod Hundredths
 pub mod Idle
 pub mod Lever
 pub mod Lines

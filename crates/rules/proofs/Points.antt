@@ -72,11 +72,11 @@ shown M6 = let p = pressedBy serviceScale (blockAt M6) in record { shape = p .bl
 abbrev pub points : List Point
 points =
     point ℕ (length caseA) 136  -- P1
-    ∷ point (List ℕ) (printed caseA) (ascii "1 00 134160 43627 0 767102100 88312 28349 173078 0 71688 30840740 390 80700 92700000 892\n")
+    ∷ point (List ℕ) (printed caseA) (ascii "1 00 134160 43627 0 767102100 88312 28349 173078 0 71688 30840740 39000 80700 92700000 89165\n")
     ∷ point ℕ (leverArm 232500000 35 585) 529  -- P2
-    ∷ point ℕ (neededArea 232500000 500 (leverArm 232500000 35 585)) 2021
-    ∷ point ℕ (providedArea 25 175) 2804  -- P3
-    ∷ point ℕ (providedArea 12 200) 565
+    ∷ point ℕ (neededArea 232500000 500 (leverArm 232500000 35 585)) 202073
+    ∷ point ℕ (providedArea 25 175) 280497  -- P3
+    ∷ point ℕ (providedArea 12 200) 56545
     ∷ point ℕ (passive excavatedA) 0  -- P4
     ∷ point Shown (shown 3600000) (record { shape = Full; toe = 400; heel = 0 })  -- P5
     ∷ point Shown (shown 3599999) (record { shape = FromToe; toe = 401; heel = 0 })  -- P6

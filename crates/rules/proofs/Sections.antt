@@ -9,7 +9,7 @@ use lib.Dec.{T, leb, ltb, leb→le}
 use lib.Ieee.Bits.{is-true}
 use Rattle.whole.proofs.Lists.{case}
 use Rattle.whole.specs.Rounding.{roundedUp}
-use Rattle.whole.proofs.Rounded.{up-least, up-within}
+use Rattle.whole.proofs.Rounded.{up-least}
 use Rattle.rules.specs.declared.Section.{Section}
 use Rattle.rules.specs.JobFile.{Wall, toeBar, stemBar, wallFits}
 use Rattle.rules.specs.Forces.{squared}
@@ -125,7 +125,7 @@ moment-most M fcu D w e = omega (arith, ltb-false (39 * fcu * squared D) M e, mu
 
 -- a moment that the concrete bears at a lever arm Z needs no more steel there than this
 needed-most : (M fcu fy Z rest : ℕ) → M ≤ 225 * fcu * Z * rest → fcu ≤ sectionLimit → rest ≤ deepest → 1 ≤ fy
-    → roundedUp (200 * M) (87 * fy * Z) ≤ 45000 * (sectionLimit * deepest)
+    → roundedUp (20000 * M) (87 * fy * Z) ≤ 4500000 * (sectionLimit * deepest)
 needed-most M fcu fy Z rest bears strength depth strong =
     up-least (87 * fy * Z) (omega (arith, mul-le-mul-right Z (mul-le-mul strength depth), mul-le-mul-right Z strong))
 
@@ -137,7 +137,6 @@ required-most s t M =
     let fcu = s .concrete in
     let D = twiceDepth s in
     let Z = leverArm M fcu D in
-    let least = up-within (s .least * 1000 * s .thickness) 10000 in
     let few = mul-le-mul (lt→le (w .bounded .least)) (lt→le (w .bounded .thickness)) in
     case (needsCompression M fcu D) _ _ Small (λ h. omega arith)
     (λ h. omega (arith, needed-most M fcu (s .steel) Z (D - Z) (w .lever M h .strong) (omega arith) (omega (arith, depth-most (w .bounded))) (w .strong)))

@@ -1,5 +1,5 @@
 -- Document 01, "Toe and stem": what bends and shears the toe and the stem, and the steel and shear rules, which are one for every section.
--- Shears are in N and moments in N mm, on a metre's run; pressures in N/m2; areas in mm2.
+-- Shears are in N and moments in N mm, on a metre's run; pressures in N/m2; areas in hundredths of mm2 (#106 of document 02).
 use Prim.Native.Nat.{ℕ, zero, suc, _+_, _-_, _*_, max}
 use mathlib.Core.Bool.{Bool, true, false, not, _&&_, _||_, cond}
 use mathlib.Core.List.{List, [], _∷_, _++_}
@@ -208,15 +208,15 @@ greatest passes (suc n) = elim (passes (suc n)) [ true ↦ suc n | false ↦ gre
 unfoldable pub leverArm : ℕ → ℕ → ℕ → ℕ
 leverArm M fcu D = greatest (bears M fcu D) D
 
--- for a moment M at a lever arm Z
+-- for a moment M at a lever arm Z: 200 M / (87 fy Z) mm2, rounded up to a hundredth
 unfoldable pub neededArea : ℕ → ℕ → ℕ → ℕ
-neededArea M fy Z = roundedUp (200 * M) (87 * fy * Z)
+neededArea M fy Z = roundedUp (20000 * M) (87 * fy * Z)
 
--- of a metre's width, 1000 mm; a hundredth of a percent is a 10000th
+-- a hundredth of a percent of a metre's width is a tenth of a mm: 10 hundredths of mm2 for each mm of thickness. Nothing is rounded
 unfoldable pub leastArea : Section → ℕ
-leastArea s = roundedUp (s .least * 1000 * s .thickness) 10000
+leastArea s = s .least * s .thickness * 10
 
--- what one bar of each diameter has, in hundredths of mm2, in the order of the bars
+-- what one bar of each diameter has, in the order of the bars
 abbrev pub barAreas : List ℕ
 barAreas = 5026 ∷ 7853 ∷ 11309 ∷ 20106 ∷ 31415 ∷ 49087 ∷ 80424 ∷ 125663 ∷ []
 
@@ -229,9 +229,9 @@ besides n (m ∷ ms) (area ∷ areas) = cond (eqb n m) area (besides n ms areas)
 unfoldable pub barArea : ℕ → ℕ
 barArea bar = besides bar bars barAreas
 
--- of bars at a spacing over a metre, 1000 mm, from hundredths of mm2
+-- of bars at a spacing over a metre, 1000 mm, rounded down
 unfoldable pub providedArea : ℕ → ℕ → ℕ
-providedArea bar spacing = roundedDown (barArea bar * 1000) (100 * spacing)
+providedArea bar spacing = roundedDown (barArea bar * 1000) spacing
 
 -- the greater of needed and least; where compression steel would be needed, 0
 unfoldable pub requiredArea : Section → ℕ → ℕ

@@ -139,7 +139,7 @@ pub struct Action {
     pub moment: u64,
 }
 
-// The steel that a section requires in mm2, and whether it fails: less is provided, or compression steel would be needed.
+// The steel that a section requires in hundredths of mm2, and whether it fails: less is provided, or compression steel would be needed.
 pub struct Steel {
     pub required: u64,
     pub fails: bool,

@@ -6,7 +6,7 @@ ghost use mathlib.Core.List.{[], _∷_};
 
 // P2: the lever arm, and what is needed. P3: what two spacings provide. P9: the lever arm at the most that the concrete bears.
 fn figures() -> [u64; 5]
-    ensures { λ r. ⌜ r ≡ 529 ∷ 2021 ∷ 2804 ∷ 565 ∷ 394 ∷ [] ⌝ }
+    ensures { λ r. ⌜ r ≡ 529 ∷ 202073 ∷ 280497 ∷ 56545 ∷ 394 ∷ [] ⌝ }
 {
     let z = steel::lever_arm(232500000, 35, 585);
     [

@@ -1,4 +1,4 @@
-// Document 01, "Toe and stem": the steel of a section, by BS 8110. Areas are in mm2 on a metre's width.
+// Document 01, "Toe and stem": the steel of a section, by BS 8110. Areas are in hundredths of mm2 on a metre's width.
 use rules::BARS;
 use rules::Section;
 use rules::Steel;
@@ -12,13 +12,8 @@ ghost use Rattle.rules.proofs.Sections.{Bounded, deepest, Within, greatestMomen
 // The width that steel is worked for, in mm.
 const METRE: u64 = 1000;
 
-// The least steel is in hundredths of a percent.
-const TEN_THOUSANDTHS: u64 = 10000;
-
-// The area of a bar of each diameter, in hundredths of mm2, in the order of the diameters.
+// The area of a bar of each diameter, in the order of the diameters.
 const BAR_AREAS: [u32; 8] = [5026, 7853, 11309, 20106, 31415, 49087, 80424, 125663];
-
-const HUNDREDTHS: u64 = 100;
 
 // D: twice the depth.
 pub fn twice_depth(section: Section) -> u64
@@ -33,7 +28,7 @@ pub fn twice_depth(section: Section) -> u64
 //     K = M / (b d^2 fcu), at most K' = 0.156      needs_compression: K > K' is M > 39 fcu D^2
 //     z = d (0.5 + root of (0.25 - K / 0.9))       least_product: q is D^2 K / 0.9; lever_by_root: Z is (D + root of (D^2 - 4q)) / 2
 //     but not greater than 0.95 d                  lever_arm
-//     As = M / (0.87 fy z)                         needed_area
+//     As = M / (0.87 fy z)                         needed_area: in hundredths of mm2 that is 20000 M / (87 fy Z)
 
 // M is more than the section bears without compression steel.
 pub fn needs_compression(m: u64, fcu: u64, d: u64) -> bool
@@ -82,17 +77,18 @@ pub fn needed_area(m: u64, fy: u64, z: u64) -> u64
     requires { ⌜ (m ≤ greatestMoment) × (fy ≤ sectionLimit) × (z ≤ deepest) ⌝ }
     ensures { λ r. ⌜ r ≡ neededArea m fy z ⌝ }
 {
-    whole::rounded_up(200 * m, 87 * fy * z)
+    whole::rounded_up(20000 * m, 87 * fy * z)
 }
 
+// A hundredth of a percent of a metre's width is a tenth of a mm: 10 hundredths of mm2 for each mm of thickness. Nothing is rounded.
 fn least_area(section: Section) -> u64
     requires { ⌜ Bounded section ⌝ }
     ensures { λ r. ⌜ r ≡ leastArea section ⌝ }
 {
-    whole::rounded_up(section.least * METRE * section.thickness, TEN_THOUSANDTHS)
+    section.least * section.thickness * 10
 }
 
-// The area of one bar, in hundredths of mm2; 0 for a diameter that no bar has.
+// The area of one bar; 0 for a diameter that no bar has.
 fn bar_area(bar: u64) -> u32
     ensures { λ r. ⌜ r ≡ barArea bar ⌝ }
 {
@@ -106,10 +102,9 @@ fn bar_area(bar: u64) -> u32
 
 // The area of bars at a spacing.
 pub fn provided_area(bar: u64, spacing: u64) -> u64
-    requires { ⌜ spacing ≤ sectionLimit ⌝ }
     ensures { λ r. ⌜ r ≡ providedArea bar spacing ⌝ }
 {
-    whole::rounded_down(bar_area(bar) as u64 * METRE, HUNDREDTHS * spacing)
+    whole::rounded_down(bar_area(bar) as u64 * METRE, spacing)
 }
 
 // The area required under a moment, and whether less is provided. Where compression steel would be needed no area is given, and the steel fails.

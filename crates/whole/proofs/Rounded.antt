@@ -1,8 +1,9 @@
 -- The laws of a / b rounded up, down and to the nearest: which whole number each is, and how they compare. Assumes nothing.
-use mathlib.Core.Path.{_≡_, sym}
-use mathlib.Core.Logic.{_≢_}
-use Prim.Native.Nat.{ℕ, zero, suc, _+_, _-_, _*_, _/_, _%_, _≤_, _<_}
-use native.Mathlib.Nat.{div-zero, zero-div, div-add-mod', mod-lt, le-mul-of-pos-right, div-mul-le-self, lt-div-mul-add, le-div-iff-mul-le, div-lt-iff-lt-mul, div-eq-of-lt-le, le-trans, mul-le-mul-right, le-of-mul-le-mul-right}
+use mathlib.Core.Path.{_≡_, sym, _∙_}
+use mathlib.Core.Logic.{_≢_, dite}
+use Prim.Native.Nat.{ℕ, zero, suc, _+_, _-_, _*_, _/_, _%_, _≤_, _<_, max}
+use native.Mathlib.Nat.{div-zero, zero-div, div-add-mod', mod-lt, le-mul-of-pos-right, div-mul-le-self, lt-div-mul-add, le-div-iff-mul-le, div-lt-iff-lt-mul, div-eq-of-lt-le, le-trans, mul-pos, mul-le-mul-right, le-of-mul-le-mul-right, div-div-eq-div-mul}
+use native.Mathlib.Decide.{decLt}
 use native.Mathlib.Omega.{arith}
 use Rattle.whole.specs.Rounding.{roundedUp, roundedDown, roundedNearest}
 
@@ -170,3 +171,30 @@ down-of-zero b = zero-div b
 
 pub nearest-of-zero : (b : ℕ) → roundedNearest 0 b ≡ 0
 nearest-of-zero b = omega (arith, nearest-up 0 b, up-of-zero b)
+
+-- ---- what is rounded up is rounded alike where both numbers are k times as great
+pub up-scaled : (a b : ℕ) {k : ℕ} → 0 < k → roundedUp (a * k) (b * k) ≡ roundedUp a b
+up-scaled a zero {k} h = let e : 0 * k ≡ 0 = omega arith in rw (e, up-by-zero (a * k), up-by-zero a)
+up-scaled a (suc b) {k} h = up-alike (a * k) a (mul-pos {m = suc b} (omega arith) h) (omega arith) (omega arith)
+
+-- ---- rounded twice, the same way each time, is rounded once
+pub up-twice : (a b k : ℕ) → roundedUp (roundedUp a b) k ≡ roundedUp a (b * k)
+up-twice a zero k = let e : 0 * k ≡ 0 = omega arith in rw (e, up-by-zero) (up-of-zero k)
+up-twice a (suc b) zero = let e : suc b * 0 ≡ 0 = omega arith in rw (e, up-by-zero (roundedUp a (suc b)), up-by-zero a)
+up-twice a (suc b) (suc k) =
+    let once = roundedUp a (suc b * suc k) in
+    let first = roundedUp a (suc b) in
+    let most : first ≤ once * suc k = up-least (suc b) (omega (arith, up-enough a (mul-pos {m = suc b} {n = suc k} (omega arith) (omega arith)))) in
+    let enough : a ≤ roundedUp first (suc k) * (suc b * suc k) =
+    omega (arith, up-enough a {b = suc b} (omega arith), mul-le-mul-right (suc b) (up-enough first {b = suc k} (omega arith))) in
+    omega (arith, up-least (suc k) most, up-least (suc b * suc k) enough)
+
+pub down-twice : (a b k : ℕ) → roundedDown (roundedDown a b) k ≡ roundedDown a (b * k)
+unfolding roundedDown
+down-twice a b k = div-div-eq-div-mul a b k
+
+-- ---- the greater of two numbers is rounded up to the greater
+pub up-max : (a c b : ℕ) → roundedUp (max a c) b ≡ max (roundedUp a b) (roundedUp c b)
+up-max a c b =
+    dite (decLt a c) (λ h. let e : max a c ≡ c = omega arith in rw e (omega (arith, up-mono {a = a} {c = c} b (omega arith))))
+    (λ h. let e : max a c ≡ a = omega arith in rw e (omega (arith, up-mono {a = c} {c = a} b (omega arith))))

@@ -4,6 +4,7 @@ use crate::answers::Refusal;
 use crate::bearing::{Bearing, Contact};
 use crate::job_file::Wall;
 use crate::office::Packed;
+use crate::section::Section;
 use crate::sheet_line::Worked;
 use crate::toe::Tip;
 use std::fmt;
@@ -42,6 +43,10 @@ pub struct Tally {
     /// Walls with a toe, by the tip of a factored toe triangle and of a heel triangle.
     toe_tips: [u64; TIPS.len()],
     heel_tips: [u64; TIPS.len()],
+    /// Toes and walls, by steel for which a hundredth of a mm2 decides; one may be in
+    /// the first two places.
+    toe_steel: [u64; STEEL.len()],
+    stem_steel: [u64; STEEL.len()],
 }
 
 const SHAPES: [&str; 4] = ["nothing", "whole", "toe triangle", "heel triangle"];
@@ -62,6 +67,27 @@ const TIPS: [&str; 5] = [
     "at the middle",
     "past the middle",
 ];
+
+/// In the order of [`steel_facts`].
+const STEEL: [&str; 3] = [
+    "enough though not in whole mm2",
+    "equal to the hundredth",
+    "a hundredth short",
+];
+
+fn steel_facts(section: &Section) -> [bool; STEEL.len()] {
+    [
+        section.failed_in_mm2(),
+        section.is_even(),
+        section.is_hundredth_short(),
+    ]
+}
+
+fn count_steel(counts: &mut [u64; STEEL.len()], section: &Section) {
+    for (count, fact) in counts.iter_mut().zip(steel_facts(section)) {
+        *count += u64::from(fact);
+    }
+}
 
 fn place_of(bearing: &Bearing) -> usize {
     match bearing {
@@ -107,6 +133,10 @@ impl Tally {
         for (bit, count) in self.bits.iter_mut().enumerate() {
             *count += u64::from(wall.failures >> bit & 1);
         }
+        if let Some(toe) = &wall.toe {
+            count_steel(&mut self.toe_steel, toe);
+        }
+        count_steel(&mut self.stem_steel, &wall.stem);
     }
 
     /// Of the walls of a job whose toe is checked.
@@ -182,6 +212,8 @@ impl Tally {
         add(&mut self.bits, &other.bits);
         add(&mut self.toe_tips, &other.toe_tips);
         add(&mut self.heel_tips, &other.heel_tips);
+        add(&mut self.toe_steel, &other.toe_steel);
+        add(&mut self.stem_steel, &other.stem_steel);
     }
 }
 
@@ -207,9 +239,11 @@ fn bits(counts: &[u64; 8]) -> String {
     words.join(", ")
 }
 
+/// A row's name, and what stands in it.
+type Row = (&'static str, String);
+
 impl Tally {
-    /// The names of the table's rows, and what stands in them.
-    fn rows(&self) -> [(&'static str, String); 12] {
+    fn rows_of_calls(&self) -> [Row; 7] {
         let jobs = format!("worked {}, with {} walls", self.jobs[0], self.walls);
         let calculated = format!("worked {}", self.calculated[0]);
         let shapes = named(&SHAPES, &self.shapes);
@@ -241,10 +275,17 @@ impl Tally {
                 "calls of write",
                 answers(&written, &self.written, OF_RECORDS),
             ),
+        ]
+    }
+
+    fn rows_of_walls(&self) -> [Row; 7] {
+        [
             ("service block, in walls", named(&BLOCKS, &self.service)),
             ("factored block, in walls", named(&BLOCKS, &self.factored)),
             ("toe block's end, in toes", named(&TIPS, &self.toe_tips)),
             ("heel block's start, in toes", named(&TIPS, &self.heel_tips)),
+            ("toe steel, in toes", named(&STEEL, &self.toe_steel)),
+            ("stem steel, in walls", named(&STEEL, &self.stem_steel)),
             ("bits set, in walls", bits(&self.bits)),
         ]
     }
@@ -254,8 +295,9 @@ impl Tally {
 impl fmt::Display for Tally {
     fn fmt(&self, out: &mut fmt::Formatter<'_>) -> fmt::Result {
         writeln!(out, "| | |\n|---|---|")?;
-        self.rows()
-            .iter()
+        let rows = [self.rows_of_calls(), self.rows_of_walls()];
+        rows.iter()
+            .flatten()
             .try_for_each(|(name, words)| writeln!(out, "| {name} | {words} |"))
     }
 }

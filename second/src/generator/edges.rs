@@ -3,9 +3,9 @@
 use super::draft::{crest, load_at, typical_wall, Draft, Place, ACROSS, DOWN};
 use super::{Due, Sample};
 use crate::forces::{factored_totals, service_totals};
-use crate::job_file::{field, BARS, MOST_LOAD, MOST_LOADS_A_WALL};
+use crate::job_file::{field, RawWall, BARS, MOST_LOAD, MOST_LOADS_A_WALL};
 use crate::random::Random;
-use crate::section::Section;
+use crate::section::{provided_steel, Section};
 use crate::sheet_line::{work_wall, Worked};
 use crate::Whole;
 
@@ -231,22 +231,63 @@ fn allowable(random: &mut Random) -> Option<Draft> {
     })
 }
 
-/// Provided steel equal to the required, or `short` mm2 less, in toe or stem.
+/// Provided steel equal to the required, or `short` hundredths of mm2 less, in toe or
+/// stem.
 fn steel(random: &mut Random, toe: bool, short: Whole) -> Option<Draft> {
-    let mut draft = Draft::of(typical_wall(random));
-    let (bar, spacing) = if toe {
-        (field::TOE_BAR, field::TOE_SPACING)
-    } else {
-        (field::STEM_BAR, field::STEM_SPACING)
-    };
-    draft.walls[0][bar] = random.pick(&BARS);
-    (50..=500).find_map(|distance| {
-        draft.walls[0][spacing] = distance;
-        let worked = worked(&draft);
-        let section = if toe { worked.toe? } else { worked.stem };
-        let fits = section.required > 0 && section.provided == section.required - short;
-        fits.then(|| draft.clone())
+    let mut wall = typical_wall(random);
+    let place = if toe { field::TOE_BAR } else { field::STEM_BAR };
+    wall[place] = random.pick(&BARS);
+    tune_cage(&wall, toe, |section| {
+        section.provided == section.required - short
     })
+}
+
+/// Loads tried until a cage fits, N/m live.
+const CAGE_LOADS: u32 = 2000;
+
+/// The wall with a load and a spacing for which the cage of its toe or of its stem is as
+/// wished. It is the load that moves the required steel, by some hundredths of mm2 at a
+/// time, so the needed steel must govern.
+pub fn tune_cage(wall: &RawWall, toe: bool, wished: impl Fn(&Section) -> bool) -> Option<Draft> {
+    let mut draft = Draft::of(*wall);
+    let (bar, spacing, load) = if toe {
+        (field::TOE_BAR, field::TOE_SPACING, [1, DOWN, 0, 0, 0])
+    } else {
+        let load = [1, ACROSS, crest(wall), 0, 0];
+        (field::STEM_BAR, field::STEM_SPACING, load)
+    };
+    part_of(&draft, toe).filter(|bare| bare.needed > bare.least)?;
+    draft.loads.push(load);
+    (0..CAGE_LOADS).find_map(|live| {
+        draft.loads[0][4] = live;
+        let required = part_of(&draft, toe)?.required;
+        let mut fitting = spacings_for(wall[bar], required);
+        fitting.find_map(|distance| {
+            draft.walls[0][spacing] = distance;
+            wished(&part_of(&draft, toe)?).then(|| draft.clone())
+        })
+    })
+}
+
+/// The toe or the stem of a draft's only wall; `None` where there is no toe to check.
+pub fn part_of(draft: &Draft, toe: bool) -> Option<Section> {
+    let worked = worked(draft);
+    if toe {
+        worked.toe
+    } else {
+        Some(worked.stem)
+    }
+}
+
+/// The greatest spacing at which a bar gives so much steel, in hundredths of mm2, and
+/// the next; such as a cage may have.
+fn spacings_for(bar: u32, steel: Whole) -> impl Iterator<Item = u32> {
+    // With a bar at every mm there is so many times as much.
+    let greatest = provided_steel(Whole::from(bar), 1) / steel.max(1);
+    [greatest, greatest + 1]
+        .into_iter()
+        .filter(|spacing| (50..=500).contains(spacing))
+        .map(|spacing| spacing as u32)
 }
 
 /// A stress of concrete that 2V / D equals: it fails, as that limit is strict.
@@ -260,9 +301,7 @@ fn shear(random: &mut Random, toe: bool) -> Option<Draft> {
     });
     (0..2000).find_map(|live| {
         draft.loads[0][4] = live;
-        let worked = worked(&draft);
-        let section = if toe { worked.toe? } else { worked.stem };
-        let stress = whole_stress(&section)?;
+        let stress = whole_stress(&part_of(&draft, toe)?)?;
         let mut tuned = draft.clone();
         let place = if toe {
             field::TOE_SHEAR_STRESS

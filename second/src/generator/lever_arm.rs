@@ -54,7 +54,7 @@ fn any_bar(random: &mut Random, odd: bool) -> u32 {
 }
 
 /// Little enough that the steel needed for a worked arm is more.
-fn little_least_steel(random: &mut Random) -> u32 {
+pub fn little_least_steel(random: &mut Random) -> u32 {
     random.between(0, 13)
 }
 
@@ -117,7 +117,7 @@ fn stem(random: &mut Random, bar: u32, edge: Edge, over: Whole) -> Option<Draft>
 
 /// Adds loads across that make the stem's moment so many N mm greater. A N of
 /// dead load a mm above the base adds 7 fifths of a N mm, of live load 8.
-fn push_stem(random: &mut Random, draft: &mut Draft, more: Whole) -> Option<()> {
+pub fn push_stem(random: &mut Random, draft: &mut Draft, more: Whole) -> Option<()> {
     let wall = draft.walls[0];
     let (base, stem) = (wall[field::BASE_THICKNESS], wall[field::STEM_HEIGHT]);
     let height = random.between(stem / 2, stem);

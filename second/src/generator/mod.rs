@@ -7,6 +7,7 @@ mod lever_arm;
 mod raw;
 mod refused;
 mod seek;
+mod steel_hundredth;
 mod valid;
 
 pub use refused::{out_of_range, spoil_load, LOAD_WAYS};
@@ -34,7 +35,7 @@ pub type Maker = fn(&mut Random, usize) -> Sample;
 
 /// A kind's place is part of its seed, so that a new one comes last and leaves the
 /// jobs of the others as they were.
-pub const KINDS: [(&str, Maker); 30] = [
+pub const KINDS: [(&str, Maker); 31] = [
     ("typical", valid::typical),
     ("wide", valid::wide),
     ("field-ends", valid::field_ends),
@@ -65,6 +66,7 @@ pub const KINDS: [(&str, Maker); 30] = [
     ("refused-field", refused::one_field),
     ("lever-arm", lever_arm::lever_arm),
     ("contact-end", contact_end::contact_end),
+    ("steel-hundredth", steel_hundredth::steel_hundredth),
 ];
 
 /// The sample of a seed, a place in [`KINDS`] and an index from 0.

@@ -4,9 +4,9 @@
 use second::bearing::{Contact, Reported};
 use second::generator::draft::Draft;
 use second::generator::{sample, Due, Sample, KINDS};
-use second::job_file::{Job, RawWall, Wall};
-use second::rounding::up;
-use second::section::Effects;
+use second::job_file::{Job, RawWall, Reinforcement, Wall};
+use second::rounding::{down, up};
+use second::section::{twice_depth, twice_lever_arm, Effects};
 use second::Whole;
 
 pub const SEED: u64 = 20;
@@ -18,7 +18,7 @@ pub const CASE_A: RawWall = [
 ];
 
 pub const CASE_A_LINE: &str =
-    "1 00 134160 43627 0 767102100 88312 28349 173078 0 71688 30840740 390 80700 92700000 892\n";
+    "1 00 134160 43627 0 767102100 88312 28349 173078 0 71688 30840740 39000 80700 92700000 89165\n";
 
 /// Lowest and highest values, as document 01 prints them, field by field; of the
 /// water as far as case A's heights let it.
@@ -126,5 +126,41 @@ pub fn borne_by_line(wall: &Wall, bearing: &Reported) -> Effects {
     Effects {
         shear: up((at_end + at_face) * wall.toe, 2000),
         moment: up((2 * at_end + at_middle) * twice_a * twice_a, 24_000),
+    }
+}
+
+/// A cage by document 01 alone, before request #106: whole mm2.
+#[derive(Clone, Copy, Debug, PartialEq, Eq)]
+pub struct Before {
+    /// 0 where compression steel would be needed.
+    pub required: Whole,
+    pub provided: Whole,
+    pub fails: bool,
+}
+
+/// Needed and least steel rounded up to whole mm2, provided steel down.
+pub fn steel_before(wall: &Wall, thickness: Whole, bars: &Reinforcement, moment: Whole) -> Before {
+    let area = match bars.bar {
+        8 => 5026,
+        10 => 7853,
+        12 => 11_309,
+        16 => 20_106,
+        20 => 31_415,
+        25 => 49_087,
+        32 => 80_424,
+        40 => 125_663,
+        other => panic!("no bar of {other} mm"),
+    };
+    let provided = down(area * 1000, 100 * bars.spacing);
+    let arm = twice_lever_arm(moment, twice_depth(thickness, bars), wall.fcu);
+    let required = arm.map(|z| {
+        let needed = up(200 * moment, 87 * wall.fy * z);
+        let least = up(wall.least_steel * 1000 * thickness, 10_000);
+        needed.max(least)
+    });
+    Before {
+        required: required.unwrap_or(0),
+        provided,
+        fails: required.is_none_or(|required| provided < required),
     }
 }

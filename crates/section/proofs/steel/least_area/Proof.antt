@@ -1,11 +1,11 @@
--- `section::steel::least_area` meets its contract: it is the rules' quotient, rounded up.
+-- `section::steel::least_area` meets its contract: it is the rules' product.
+use mathlib.Core.Path.{refl}
 use native.Mathlib.Omega.{arith}
-use borrow.Author.Needs.{needs}
-use Rattle.whole.proofs.Factors.{three-fit}
+use Rattle.whole.proofs.Factors.{two-fit, three-fit}
 use Rattle.rules.specs.ToeAndStem.{leastArea}
 use Rattle.section.proofs.steel.least_area.Statement.{statement}
 use Rattle.section.proofs.steel.least_area.Tie as tie
 
 pub least-area-spec : {M : Type 1} → statement M
 unfolding leastArea
-least-area-spec = tie.close (tie.spec (λ c. search needs) (λ c. three-fit (omega arith)) (λ c κs. search needs) (λ c. search needs))
+least-area-spec = tie.close (tie.spec (λ c. two-fit (omega arith)) (λ c. three-fit (omega arith)) (λ c. refl))

@@ -7,4 +7,4 @@ use Rattle.section.proofs.steel.provided_area.Tie as tie
 pub provided-area-spec : {M : Type 1} → statement M
 unfolding providedArea
 provided-area-spec =
-    tie.close (tie.spec (λ c κs. search needs) (λ c. search needs) (λ c. search needs) (λ c. search needs) (λ c κs. search needs) (λ c. cc))
+    tie.close (tie.spec (λ c κs. search needs) (λ c. search needs) (λ c. search needs) (λ c κs. search needs) (λ c. cc))
