@@ -1,5 +1,5 @@
 -- The laws of a / b rounded up, down and to the nearest: which whole number each is, and how they compare. Assumes nothing.
-use mathlib.Core.Path.{_≡_, sym, _∙_}
+use mathlib.Core.Path.{_≡_, sym}
 use mathlib.Core.Logic.{_≢_, dite}
 use Prim.Native.Nat.{ℕ, zero, suc, _+_, _-_, _*_, _/_, _%_, _≤_, _<_, max}
 use native.Mathlib.Nat.{div-zero, zero-div, div-add-mod', mod-lt, le-mul-of-pos-right, div-mul-le-self, lt-div-mul-add, le-div-iff-mul-le, div-lt-iff-lt-mul, div-eq-of-lt-le, le-trans, mul-pos, mul-le-mul-right, le-of-mul-le-mul-right, div-div-eq-div-mul}
