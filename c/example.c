@@ -20,7 +20,7 @@ static uint32_t loads[OFFICE_LOAD_ROOM];
 static uint8_t again[OFFICE_FILE_ROOM];
 
 static const struct {
-    uint8_t bit;
+    uint16_t bit;
     const char *words;
 } checks[] = {
     {OFFICE_SLIDES, "slides"},
@@ -31,6 +31,7 @@ static const struct {
     {OFFICE_TOE_STEEL_FAILS, "toe steel"},
     {OFFICE_STEM_STEEL_FAILS, "stem steel"},
     {OFFICE_SHEAR_FAILS, "shear"},
+    {OFFICE_HEEL_STEEL_FAILS, "heel steel"},
 };
 
 static const char *reason(uint32_t refusal)
@@ -65,7 +66,7 @@ static int refused(uint64_t answer)
 static void print_verdict(const int64_t *line)
 {
     const char *before = " fails: ";
-    uint8_t failures = (uint8_t)line[OFFICE_LINE_FAILURES];
+    uint16_t failures = (uint16_t)line[OFFICE_LINE_FAILURES];
     printf("wall %d", (int)line[OFFICE_LINE_WALL]);
     for (size_t i = 0; i < sizeof checks / sizeof checks[0]; i++)
         if (office_has_failed(failures, checks[i].bit)) {
@@ -78,8 +79,8 @@ static void print_verdict(const int64_t *line)
 /* Areas are in hundredths of mm2, and are never negative. */
 static void print_steel(const int64_t *line)
 {
-    long toe = (long)line[OFFICE_LINE_TOE_STEEL], stem = (long)line[OFFICE_LINE_STEM_STEEL];
-    printf("steel required: toe %ld.%02ld mm2, stem %ld.%02ld mm2\n", toe / 100, toe % 100, stem / 100, stem % 100);
+    long toe = (long)line[OFFICE_LINE_TOE_STEEL], stem = (long)line[OFFICE_LINE_STEM_STEEL], heel = (long)line[OFFICE_LINE_HEEL_STEEL];
+    printf("steel required: toe %ld.%02ld mm2, stem %ld.%02ld mm2, heel %ld.%02ld mm2\n", toe / 100, toe % 100, stem / 100, stem % 100, heel / 100, heel % 100);
 }
 
 static void print_drawing(uint32_t shape)

@@ -31,17 +31,17 @@ extern "C" {
 /* ---- how much is lent */
 
 enum {
-    OFFICE_LINE_NUMBERS = 16, /* numbers on a wall's line */
-    OFFICE_MOST_WALLS = 64,   /* walls that a job may have; 16 x 64 numbers are room for any sheet */
-    OFFICE_TEXT_ROOM = 21504, /* bytes, room for the text of any job */
+    OFFICE_LINE_NUMBERS = 19, /* numbers on a wall's line */
+    OFFICE_MOST_WALLS = 64,   /* walls that a job may have; 19 x 64 numbers are room for any sheet */
+    OFFICE_TEXT_ROOM = 25536, /* bytes, room for the text of any job: 21 x 19 x 64 */
     OFFICE_FIGURE_ROOM = 5,   /* doubles, room for the figures of any drawing */
-    OFFICE_WALL_FIELDS = 31,  /* numbers in a wall's record */
+    OFFICE_WALL_FIELDS = 35,  /* numbers in a wall's record */
     OFFICE_LOAD_FIELDS = 5,   /* numbers in a load's record */
     OFFICE_MOST_LOADS = 512,  /* loads that a job may have */
-    /* numbers, room for the walls of any job, and for its loads: 1984 and 2560 */
+    /* numbers, room for the walls of any job, and for its loads: 2240 and 2560 */
     OFFICE_WALL_ROOM = OFFICE_WALL_FIELDS * OFFICE_MOST_WALLS,
     OFFICE_LOAD_ROOM = OFFICE_LOAD_FIELDS * OFFICE_MOST_LOADS,
-    /* bytes, room for any job: 18188 */
+    /* bytes, room for any job: 19212 */
     OFFICE_FILE_ROOM = 12 + 4 * OFFICE_WALL_ROOM + 4 * OFFICE_LOAD_ROOM
 };
 
@@ -102,7 +102,10 @@ enum office_line {
     OFFICE_LINE_TOE_STEEL,    /* area required, in hundredths of mm2 */
     OFFICE_LINE_STEM_SHEAR,   /* N */
     OFFICE_LINE_STEM_MOMENT,  /* N mm */
-    OFFICE_LINE_STEM_STEEL    /* area required, in hundredths of mm2 */
+    OFFICE_LINE_STEM_STEEL,   /* area required, in hundredths of mm2 */
+    OFFICE_LINE_HEEL_SHEAR,   /* N */
+    OFFICE_LINE_HEEL_MOMENT,  /* N mm */
+    OFFICE_LINE_HEEL_STEEL    /* area required, in hundredths of mm2 */
 };
 
 /* The bits of OFFICE_LINE_FAILURES. No other bit is ever set, and a wall with none passes. */
@@ -114,28 +117,29 @@ enum office_failure {
     OFFICE_NO_FACTORED_BLOCK = 16, /* none is given for the factored totals */
     OFFICE_TOE_STEEL_FAILS = 32,
     OFFICE_STEM_STEEL_FAILS = 64,
-    OFFICE_SHEAR_FAILS = 128       /* of toe or stem */
+    OFFICE_SHEAR_FAILS = 128,      /* of toe, stem or heel */
+    OFFICE_HEEL_STEEL_FAILS = 256
 };
 
 /*
- * The sheet of a job. Where it is worked the answer is 0, and the buffer holds 16 numbers for each wall, in the job's order, and behind
+ * The sheet of a job. Where it is worked the answer is 0, and the buffer holds 19 numbers for each wall, in the job's order, and behind
  * them what it held before. A refusal is 1 to 8 or 10, with its place, and the buffer is as it was; it is 8 where the buffer has room for
- * fewer than 16 numbers for each wall. The shape is 0.
+ * fewer than 19 numbers for each wall. The shape is 0.
  */
 uint64_t office_calculate(const uint8_t *job, size_t job_length, int64_t *out, size_t out_length);
 
 /*
- * Is the bit of a check set in the failures of a line? They are its number at OFFICE_LINE_FAILURES, which a uint8_t holds. The check is
+ * Is the bit of a check set in the failures of a line? They are its number at OFFICE_LINE_FAILURES, which a uint16_t holds. The check is
  * named by its bit, one of enum office_failure; of any other number the answer is false.
  */
-bool office_has_failed(uint8_t failures, uint8_t check);
+bool office_has_failed(uint16_t failures, uint16_t check);
 
 /* ---- the sheet as it is printed */
 
 /*
  * The text of a job, in ASCII: a line for each wall, or one that says `refused` with the refusal's number, 1 to 7 or 10, and its place. It
  * is put at the start of the buffer, with no 0 behind it, and what stands behind it is as it was. The answer is how many bytes it took. A
- * buffer with fewer than 21504 bytes is left as it was, and the answer is 0, whatever the job.
+ * buffer with fewer than 25536 bytes is left as it was, and the answer is 0, whatever the job.
  */
 size_t office_text(const uint8_t *job, size_t job_length, uint8_t *out, size_t out_length);
 
@@ -203,7 +207,11 @@ enum office_wall {
     OFFICE_WALL_STEM_BAR,
     OFFICE_WALL_STEM_SPACING,
     OFFICE_WALL_TOE_STRESS,        /* what the concrete takes in shear, 1/1000 N/mm2 */
-    OFFICE_WALL_STEM_STRESS
+    OFFICE_WALL_STEM_STRESS,
+    OFFICE_WALL_HEEL_COVER,        /* the same three of the heel, and its stress */
+    OFFICE_WALL_HEEL_BAR,
+    OFFICE_WALL_HEEL_SPACING,
+    OFFICE_WALL_HEEL_STRESS
 };
 
 /* And of a load's. */
@@ -220,15 +228,15 @@ static inline size_t office_wall_count(const uint8_t *job) { return job[2] + 256
 static inline size_t office_load_count(const uint8_t *job) { return job[6] + 256u * job[7]; }
 
 /*
- * The records of a job. Where it is taken apart the answer is 0, and the one buffer holds 31 numbers for each wall, the other 5 for each
+ * The records of a job. Where it is taken apart the answer is 0, and the one buffer holds 35 numbers for each wall, the other 5 for each
  * load, in the job's order, and behind them what they held before. A refusal is 1 to 7 or 10, with its place, or 8 where either buffer has
  * room for fewer; then both are as they were.
  */
 uint64_t office_records(const uint8_t *job, size_t job_length, uint32_t *walls, size_t walls_length, uint32_t *loads, size_t loads_length);
 
 /*
- * The job that records make: 31 numbers for each wall, and 5 for each load. Where it is written the answer's refusal is 0 and its bytes are
- * 12, 124 for each wall and 20 for each load; the buffer holds the job in so many, and behind them what it held before. office_records gives
+ * The job that records make: 35 numbers for each wall, and 5 for each load. Where it is written the answer's refusal is 0 and its bytes are
+ * 12, 140 for each wall and 20 for each load; the buffer holds the job in so many, and behind them what it held before. office_records gives
  * the same records of it, and what it gives of any job is written as the same bytes. A refusal is 3, also for numbers that aren't whole
  * records, 5 to 7 as the job would be refused, with its place, or 9 where the buffer has room for fewer bytes; then the answer's bytes are
  * 0, and the buffer is as it was.

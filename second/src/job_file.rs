@@ -1,10 +1,11 @@
-//! Document 01, "The job file": the layout, the fields and their ranges.
+//! Document 01, "The job file": the layout, the fields and their ranges; with the four
+//! fields of the heel that document 02 adds, "#103 Heel steel".
 
 use crate::Whole;
 
 pub const EDITION: u16 = 1;
 pub const HEADER_BYTES: usize = 12;
-pub const WALL_FIELDS: usize = 31;
+pub const WALL_FIELDS: usize = 35;
 pub const LOAD_FIELDS: usize = 5;
 pub const WALL_BYTES: usize = 4 * WALL_FIELDS;
 pub const LOAD_BYTES: usize = 4 * LOAD_FIELDS;
@@ -50,6 +51,10 @@ pub mod field {
     pub const STEM_SPACING: usize = 28;
     pub const TOE_SHEAR_STRESS: usize = 29;
     pub const STEM_SHEAR_STRESS: usize = 30;
+    pub const HEEL_COVER: usize = 31;
+    pub const HEEL_BAR: usize = 32;
+    pub const HEEL_SPACING: usize = 33;
+    pub const HEEL_SHEAR_STRESS: usize = 34;
 }
 
 pub type RawWall = [u32; WALL_FIELDS];
@@ -97,6 +102,10 @@ pub const RANGES: [Range; WALL_FIELDS] = [
     Bar,
     Between(50, 500),
     Between(1, 5000),
+    Between(1, 5000),
+    Between(20, 75),
+    Bar,
+    Between(50, 500),
     Between(1, 5000),
 ];
 
@@ -223,6 +232,7 @@ pub struct Wall {
     pub least_steel: Whole,
     pub toe_bars: Reinforcement,
     pub stem_bars: Reinforcement,
+    pub heel_bars: Reinforcement,
 }
 
 impl Wall {
@@ -254,6 +264,7 @@ impl Wall {
             least_steel: of(field::LEAST_STEEL),
             toe_bars: reinforcement(raw, field::TOE_COVER, field::TOE_SHEAR_STRESS),
             stem_bars: reinforcement(raw, field::STEM_COVER, field::STEM_SHEAR_STRESS),
+            heel_bars: reinforcement(raw, field::HEEL_COVER, field::HEEL_SHEAR_STRESS),
         }
     }
 

@@ -10,6 +10,7 @@ pub mod compare;
 pub mod drawing;
 pub mod forces;
 pub mod generator;
+pub mod heel;
 pub mod job_file;
 #[cfg(feature = "library")]
 pub mod library;

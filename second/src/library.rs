@@ -15,7 +15,7 @@ extern "C" {
         out: *mut f64,
         out_length: usize,
     ) -> u64;
-    fn office_has_failed(failures: u8, check: u8) -> bool;
+    fn office_has_failed(failures: u16, check: u16) -> bool;
     fn office_write(
         walls: *const u32,
         walls_length: usize,
@@ -54,7 +54,7 @@ impl Office for Library {
         Packed(unsafe { office_drawing(job.as_ptr(), job.len(), wall, figures, room) })
     }
 
-    fn has_failed(&self, failures: u8, check: u8) -> bool {
+    fn has_failed(&self, failures: u16, check: u16) -> bool {
         // SAFETY: two numbers are all that the library is given.
         unsafe { office_has_failed(failures, check) }
     }

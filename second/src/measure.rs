@@ -128,7 +128,7 @@ mod tests {
             assert_eq!(alone.len(), MOST_WALLS);
             assert_eq!(lines(8), alone);
             assert_eq!(lines(MOST_WALLS), alone);
-            assert!(alone.iter().all(|line| line.split(' ').count() == 15));
+            assert!(alone.iter().all(|line| line.split(' ').count() == 18));
         }
     }
 }

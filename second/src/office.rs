@@ -101,7 +101,7 @@ pub trait Office {
 
     /// Whether the bit of a check, by which it is asked for, is set in the
     /// failures of a line; false of a number that is no check's bit.
-    fn has_failed(&self, failures: u8, check: u8) -> bool;
+    fn has_failed(&self, failures: u16, check: u16) -> bool;
 
     /// The job file of some records, at the start of `out`.
     fn write(&self, walls: &[u32], loads: &[u32], out: &mut [u8]) -> Packed;
@@ -144,7 +144,7 @@ impl Office for Second {
         Packed::from(&drawing.shape)
     }
 
-    fn has_failed(&self, failures: u8, check: u8) -> bool {
+    fn has_failed(&self, failures: u16, check: u16) -> bool {
         CHECKS.contains(&check) && failures & check != 0
     }
 
@@ -189,7 +189,7 @@ mod tests {
     #[test]
     fn the_longest_file_has_its_bytes_in_the_highest_bits() {
         let packed = Packed::written(MOST_BYTES);
-        assert_eq!((packed.bytes(), MOST_BYTES), (18_188, 18_188));
+        assert_eq!((packed.bytes(), MOST_BYTES), (19_212, 19_212));
         assert_eq!((packed.number(), packed.place()), (0, 0));
     }
 }

@@ -1,11 +1,13 @@
 //! Document 01, "Toe and stem": shear, moment, steel and the shear check; document 02,
 //! "#106 Steel to the hundredth". What the ground bears under the toe is worked in
-//! [`toe`](crate::toe).
+//! [`toe`](crate::toe), shear and moment of the heel in [`heel`](crate::heel). Steel and
+//! shear are checked alike in all three.
 //!
 //! V in N, M in N mm and steel in hundredths of mm2, all per metre run.
 
 use crate::bearing::Reported;
 use crate::forces::{load_components, pushes, Action, Component};
+use crate::heel::heel_effects;
 use crate::job_file::{Direction, Load, Reinforcement, Wall, BARS};
 use crate::rounding::{down, up};
 use crate::toe::{borne, twice_middle};
@@ -134,7 +136,7 @@ pub fn shear_passes(shear: Whole, d: Whole, stress: Whole, fcu: Whole) -> bool {
     twice < stress * d && twice <= 5000 * d && 100 * twice * twice <= 64 * fcu * area * area
 }
 
-/// All that is worked for the toe or for the stem; the four areas in hundredths of
+/// All that is worked for the toe, the stem or the heel; the four areas in hundredths of
 /// mm2.
 #[derive(Clone, Copy, Debug, PartialEq, Eq)]
 pub struct Section {
@@ -206,6 +208,18 @@ pub fn toe_section(wall: &Wall, factored: Option<&Reported>) -> Option<Section> 
         wall,
         wall.base_thickness,
         &wall.toe_bars,
+        effects,
+    ))
+}
+
+/// `None` where no heel check is made: no heel, or no factored block given.
+pub fn heel_section(wall: &Wall, factored: Option<&Reported>) -> Option<Section> {
+    let bearing = factored.filter(|_| wall.heel > 0)?;
+    let effects = heel_effects(wall, bearing);
+    Some(check_section(
+        wall,
+        wall.base_thickness,
+        &wall.heel_bars,
         effects,
     ))
 }

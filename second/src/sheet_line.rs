@@ -1,27 +1,30 @@
-//! Document 01, "The sheet line": the failures and the 16 numbers of a wall.
+//! Document 01, "The sheet line", and document 02, "#103 Heel steel": the failures and the
+//! 19 numbers of a wall.
 
 use crate::bearing::{Bearing, Case};
 use crate::forces::{
     factored_totals, friction, passive_force, propping_force, service_totals, slides, Totals,
 };
 use crate::job_file::{Job, Load, Wall};
-use crate::section::{stem_section, toe_section, Section};
+use crate::section::{heel_section, stem_section, toe_section, Section};
 use crate::Whole;
 
 /// How many numbers a wall's line has.
-pub const LINE_NUMBERS: usize = 16;
+pub const LINE_NUMBERS: usize = 19;
 
-pub const SLIDES: u8 = 1;
-pub const OVERTURNS: u8 = 2;
-pub const OVER_ALLOWABLE: u8 = 4;
-pub const NO_SERVICE_BLOCK: u8 = 8;
-pub const NO_FACTORED_BLOCK: u8 = 16;
-pub const TOE_STEEL: u8 = 32;
-pub const STEM_STEEL: u8 = 64;
-pub const SHEAR: u8 = 128;
+pub const SLIDES: u16 = 1;
+pub const OVERTURNS: u16 = 2;
+pub const OVER_ALLOWABLE: u16 = 4;
+pub const NO_SERVICE_BLOCK: u16 = 8;
+pub const NO_FACTORED_BLOCK: u16 = 16;
+pub const TOE_STEEL: u16 = 32;
+pub const STEM_STEEL: u16 = 64;
+/// Of toe, stem or heel.
+pub const SHEAR: u16 = 128;
+pub const HEEL_STEEL: u16 = 256;
 
 /// The bits of all checks.
-pub const CHECKS: [u8; 8] = [
+pub const CHECKS: [u16; 9] = [
     SLIDES,
     OVERTURNS,
     OVER_ALLOWABLE,
@@ -30,6 +33,7 @@ pub const CHECKS: [u8; 8] = [
     TOE_STEEL,
     STEM_STEEL,
     SHEAR,
+    HEEL_STEEL,
 ];
 
 /// Everything worked for one wall.
@@ -46,7 +50,8 @@ pub struct Worked {
     pub factored_bearing: Bearing,
     pub toe: Option<Section>,
     pub stem: Section,
-    pub failures: u8,
+    pub heel: Option<Section>,
+    pub failures: u16,
 }
 
 /// Works the wall with this number and these loads of its own.
@@ -68,6 +73,7 @@ pub fn work_wall(number: usize, wall: &Wall, loads: &[Load]) -> Worked {
         factored_bearing,
         toe: toe_section(wall, factored_bearing.given()),
         stem: stem_section(wall, loads),
+        heel: heel_section(wall, factored_bearing.given()),
         failures: 0,
     };
     worked.failures = failures(wall, &worked);
@@ -83,12 +89,13 @@ pub fn work_job(job: &Job) -> Vec<Worked> {
         .collect()
 }
 
-fn failures(wall: &Wall, worked: &Worked) -> u8 {
+fn failures(wall: &Wall, worked: &Worked) -> u16 {
     let (toe, heel) = worked.service_bearing.pressures();
     // Allowable in kN/m2. A reported pressure is over a whole number of N/m2
     // just when the exact one is.
     let allowable = 1000 * wall.allowable;
     let toe_part = |fails: fn(&Section) -> bool| worked.toe.as_ref().is_some_and(fails);
+    let heel_part = |fails: fn(&Section) -> bool| worked.heel.as_ref().is_some_and(fails);
     let checks = [
         (
             SLIDES,
@@ -102,23 +109,25 @@ fn failures(wall: &Wall, worked: &Worked) -> u8 {
         (STEM_STEEL, worked.stem.steel_fails),
         (
             SHEAR,
-            toe_part(|s| s.shear_fails) || worked.stem.shear_fails,
+            toe_part(|s| s.shear_fails) || worked.stem.shear_fails || heel_part(|s| s.shear_fails),
         ),
+        (HEEL_STEEL, heel_part(|s| s.steel_fails)),
     ];
     checks
         .iter()
         .filter(|(_, fails)| *fails)
-        .fold(0, |byte, (bit, _)| byte | bit)
+        .fold(0, |set, (bit, _)| set | bit)
 }
 
 impl Worked {
-    /// The numbers in the line's order; the two areas in hundredths of mm2.
+    /// The numbers in the line's order; the three areas in hundredths of mm2.
     pub fn numbers(&self) -> [Whole; LINE_NUMBERS] {
         let (toe, heel) = self.service_bearing.pressures();
         let (factored_toe, factored_heel) = self.factored_bearing.pressures();
         let figures = |s: &Section| [s.effects.shear, s.effects.moment, s.required];
         let [toe_v, toe_m, toe_area] = self.toe.as_ref().map_or([0; 3], figures);
         let [stem_v, stem_m, stem_area] = figures(&self.stem);
+        let [heel_v, heel_m, heel_area] = self.heel.as_ref().map_or([0; 3], figures);
         [
             self.number as Whole,
             Whole::from(self.failures),
@@ -136,13 +145,16 @@ impl Worked {
             stem_v,
             stem_m,
             stem_area,
+            heel_v,
+            heel_m,
+            heel_area,
         ]
     }
 
     /// The printed line, without its newline.
     pub fn line(&self) -> String {
         let numbers = self.numbers();
-        let mut words = vec![numbers[0].to_string(), format!("{:02x}", self.failures)];
+        let mut words = vec![numbers[0].to_string(), format!("{:03x}", self.failures)];
         words.extend(numbers[2..].iter().map(Whole::to_string));
         words.join(" ")
     }

@@ -1,13 +1,14 @@
 //! What a job touches, in stable words, for counting coverage.
 
 use crate::answers::accept;
-use crate::bearing::{Bearing, Contact, Reported, GREATEST_PEAK};
+use crate::bearing::{Bearing, Block, Contact, Fraction, Reported, GREATEST_PEAK};
 use crate::forces::{passive_depth, Totals};
+use crate::heel::{borne, less, pressed_down, weighed, Ground, Reach, MOMENT_PARTS, SHEAR_PARTS};
 use crate::job_file::{Direction, Job, Load, Wall};
 use crate::rounding::{down, up};
 use crate::section::{
     greatest_arm, greatest_moment, moment_borne, needed_at_depth, needed_is_exact, shear_passes,
-    Section,
+    Effects, Section,
 };
 use crate::sheet_line::{work_wall, Worked};
 use crate::toe::{rounding_at_face_shows, Tip};
@@ -107,6 +108,7 @@ pub const VOCABULARY: &[&str] = &[
     "bit-32-set",
     "bit-64-set",
     "bit-128-set",
+    "bit-256-set",
     "bit-1-clear",
     "bit-2-clear",
     "bit-4-clear",
@@ -115,6 +117,7 @@ pub const VOCABULARY: &[&str] = &[
     "bit-32-clear",
     "bit-64-clear",
     "bit-128-clear",
+    "bit-256-clear",
     // Sliding, overturning and bearing at equality; the prop.
     "sliding-even",
     "overturning-even",
@@ -183,6 +186,54 @@ pub const VOCABULARY: &[&str] = &[
     "stem-steel-last-moment",
     "stem-steel-past-last-moment",
     "stem-needed-exact",
+    // The heel.
+    "heel-checked",
+    "heel-unchecked-no-heel",
+    "heel-unchecked-no-block",
+    "heel-shear-below-0",
+    "heel-moment-below-0",
+    "heel-compression-steel",
+    "heel-steel-least",
+    "heel-steel-needed",
+    "heel-steel-fails",
+    "heel-steel-fails-alone",
+    "heel-steel-even",
+    "heel-arm-capped",
+    "heel-arm-worked",
+    "heel-shear-fails",
+    "heel-shear-fails-alone",
+    "heel-shear-even",
+    "heel-shear-fcu-fails",
+    "heel-steel-fails-in-mm2",
+    "heel-steel-hundredth-short",
+    "heel-needed-not-whole",
+    "heel-least-not-whole",
+    "heel-least-even",
+    // What weighs on it.
+    "heel-fill-moist",
+    "heel-fill-saturated",
+    "heel-fill-both",
+    "heel-surcharge-0",
+    "heel-surcharge",
+    "heel-loaded",
+    // The factored block under it, and where a triangle comes to nothing.
+    "under-heel-whole",
+    "under-heel-whole-to-its-end",
+    "under-heel-toe-block-ends-before-middle",
+    "under-heel-toe-block-ends-at-middle",
+    "under-heel-toe-block-ends-before-back",
+    "under-heel-toe-block-ends-at-back",
+    "under-heel-toe-block-ends-past-back",
+    "under-heel-heel-block-starts-before-middle",
+    "under-heel-heel-block-starts-at-middle",
+    "under-heel-heel-block-starts-before-back",
+    "under-heel-heel-block-starts-at-back",
+    "under-heel-heel-block-starts-past-back",
+    // Its roundings where they show.
+    "heel-sum-by-parts",
+    "heel-sum-not-whole",
+    "heel-bearing-not-whole",
+    "heel-peak-shows",
 ];
 
 /// One line: the answer's word first, then the rest in order of the alphabet.
@@ -251,6 +302,7 @@ fn wall_words(words: &mut Words, wall: &Wall, loads: &[Load]) {
     stability_words(words, wall, &worked);
     toe_words(words, wall, &worked);
     stem_words(words, wall, &worked.stem);
+    heel_words(words, wall, loads, &worked);
 }
 
 fn either(words: &mut Words, fact: bool, yes: &'static str, no: &'static str) {
@@ -404,7 +456,7 @@ fn factored_words(words: &mut Words, wall: &Wall, worked: &Worked) {
     edge_words(words, &worked.factored, l, &worked.factored_bearing, edges);
 }
 
-const BITS_SET: [&str; 8] = [
+const BITS_SET: [&str; 9] = [
     "bit-1-set",
     "bit-2-set",
     "bit-4-set",
@@ -413,8 +465,9 @@ const BITS_SET: [&str; 8] = [
     "bit-32-set",
     "bit-64-set",
     "bit-128-set",
+    "bit-256-set",
 ];
-const BITS_CLEAR: [&str; 8] = [
+const BITS_CLEAR: [&str; 9] = [
     "bit-1-clear",
     "bit-2-clear",
     "bit-4-clear",
@@ -423,10 +476,11 @@ const BITS_CLEAR: [&str; 8] = [
     "bit-32-clear",
     "bit-64-clear",
     "bit-128-clear",
+    "bit-256-clear",
 ];
 
-fn failure_words(words: &mut Words, failures: u8) {
-    for bit in 0..8 {
+fn failure_words(words: &mut Words, failures: u16) {
+    for bit in 0..BITS_SET.len() {
         let set = failures >> bit & 1 == 1;
         either(words, set, BITS_SET[bit], BITS_CLEAR[bit]);
     }
@@ -536,6 +590,164 @@ fn stem_words(words: &mut Words, wall: &Wall, stem: &Section) {
     note(words, fcu_even && !stem.shear_fails, "stem-shear-fcu-even");
 }
 
+fn heel_words(words: &mut Words, wall: &Wall, loads: &[Load], worked: &Worked) {
+    let (Some(heel), Some(bearing)) = (&worked.heel, worked.factored_bearing.given()) else {
+        either(
+            words,
+            wall.heel == 0,
+            "heel-unchecked-no-heel",
+            "heel-unchecked-no-block",
+        );
+        return;
+    };
+    words.push("heel-checked");
+    let names = [
+        "heel-compression-steel",
+        "heel-steel-least",
+        "heel-steel-needed",
+        "heel-steel-fails",
+        "heel-steel-even",
+        "heel-arm-capped",
+        "heel-arm-worked",
+    ];
+    steel_words(words, heel, names);
+    hundredth_words(words, heel, HEEL_HUNDREDTHS);
+    let stress = wall.heel_bars.concrete_shear_stress;
+    let (d, twice) = (heel.twice_depth, 2 * heel.effects.shear);
+    note(words, heel.shear_fails, "heel-shear-fails");
+    note(words, twice == stress * d, "heel-shear-even");
+    let by_fcu = twice < stress * d && !shear_passes(heel.effects.shear, d, stress, wall.fcu);
+    note(words, by_fcu, "heel-shear-fcu-fails");
+    alone_words(words, worked, heel);
+    weight_words(words, wall, loads);
+    words.push(under_heel_word(wall, bearing));
+    rounding_words(words, wall, bearing);
+}
+
+/// Whether it is the heel alone that fails.
+fn alone_words(words: &mut Words, worked: &Worked, heel: &Section) {
+    let toe = |fails: fn(&Section) -> bool| worked.toe.as_ref().is_some_and(fails);
+    let other_steel = toe(|toe| toe.steel_fails) || worked.stem.steel_fails;
+    let other_shear = toe(|toe| toe.shear_fails) || worked.stem.shear_fails;
+    let steel_alone = heel.steel_fails && !other_steel;
+    note(words, steel_alone, "heel-steel-fails-alone");
+    let shear_alone = heel.shear_fails && !other_shear;
+    note(words, shear_alone, "heel-shear-fails-alone");
+}
+
+/// What stands over a heel; a load at its back face doesn't.
+fn weight_words(words: &mut Words, wall: &Wall, loads: &[Load]) {
+    let wet = wall.water_on_base();
+    words.push(if wet == 0 {
+        "heel-fill-moist"
+    } else if wet < wall.stem_height {
+        "heel-fill-both"
+    } else {
+        "heel-fill-saturated"
+    });
+    either(
+        words,
+        wall.surcharge == 0,
+        "heel-surcharge-0",
+        "heel-surcharge",
+    );
+    let back = wall.toe + wall.stem_thickness;
+    let over_heel = |load: &Load| load.direction == Direction::Down && load.position > back;
+    let weighs = |load: &Load| load.dead + load.live > 0;
+    let loaded = loads.iter().any(|load| over_heel(load) && weighs(load));
+    note(words, loaded, "heel-loaded");
+}
+
+const UNDER_HEEL_ENDS: [&str; 5] = [
+    "under-heel-toe-block-ends-before-middle",
+    "under-heel-toe-block-ends-at-middle",
+    "under-heel-toe-block-ends-before-back",
+    "under-heel-toe-block-ends-at-back",
+    "under-heel-toe-block-ends-past-back",
+];
+const UNDER_HEEL_STARTS: [&str; 5] = [
+    "under-heel-heel-block-starts-before-middle",
+    "under-heel-heel-block-starts-at-middle",
+    "under-heel-heel-block-starts-before-back",
+    "under-heel-heel-block-starts-at-back",
+    "under-heel-heel-block-starts-past-back",
+];
+
+/// The word of the block under a heel, in the order of [`Reach`].
+fn under_heel_word(wall: &Wall, bearing: &Reported) -> &'static str {
+    match (bearing.block.kind, Reach::of(wall, bearing)) {
+        (_, None) => "under-heel-whole",
+        (Contact::Whole, Some(_)) => "under-heel-whole-to-its-end",
+        (Contact::ToeTriangle, Some(reach)) => UNDER_HEEL_ENDS[reach as usize],
+        (Contact::HeelTriangle, Some(reach)) => UNDER_HEEL_STARTS[reach as usize],
+    }
+}
+
+/// What is below 0 before it counts as 0, and what another rounding would make of V or
+/// of M.
+fn rounding_words(words: &mut Words, wall: &Wall, bearing: &Reported) {
+    let (down, up) = (pressed_down(wall), borne(wall, bearing));
+    note(words, down.shear < up.shear, "heel-shear-below-0");
+    note(words, down.moment < up.moment, "heel-moment-below-0");
+    let due = less(down, up);
+    let by_parts = less(rounded_by_parts(wall), up) != due;
+    note(words, by_parts, "heel-sum-by-parts");
+    let not_whole = less(sum_rounded_down(wall), up) != due;
+    note(words, not_whole, "heel-sum-not-whole");
+    let up_rounded_up = borne_rounded_up(wall, bearing);
+    let bearing_shows = less(down, up_rounded_up) != due;
+    note(words, bearing_shows, "heel-bearing-not-whole");
+    let by_reported = borne(wall, &with_reported_pressures(bearing));
+    note(words, less(down, by_reported) != due, "heel-peak-shows");
+}
+
+/// Each of the weights rounded up by itself.
+fn rounded_by_parts(wall: &Wall) -> Effects {
+    let all = weighed(wall);
+    Effects {
+        shear: all.iter().map(|weight| up(weight.shear, SHEAR_PARTS)).sum(),
+        moment: all
+            .iter()
+            .map(|weight| up(weight.moment, MOMENT_PARTS))
+            .sum(),
+    }
+}
+
+fn sum_rounded_down(wall: &Wall) -> Effects {
+    let all = weighed(wall);
+    let sum = |of: fn(&Effects) -> Whole| -> Whole { all.iter().map(of).sum() };
+    Effects {
+        shear: down(sum(|weight| weight.shear), SHEAR_PARTS),
+        moment: down(sum(|weight| weight.moment), MOMENT_PARTS),
+    }
+}
+
+fn borne_rounded_up(wall: &Wall, bearing: &Reported) -> Effects {
+    let ground = Ground::of(wall, bearing);
+    let force = ground.force_between(ground.back, ground.end);
+    let moment = ground.moment_between(ground.middle, ground.middle, ground.end);
+    Effects {
+        shear: force.over_rounded_up(&ground.newton()),
+        moment: moment.over_rounded_up(&ground.newton_mm()),
+    }
+}
+
+/// The same block with pressures that are rounded up to N/m2.
+fn with_reported_pressures(bearing: &Reported) -> Reported {
+    let reported = |newtons: Whole| Fraction {
+        over: newtons,
+        under: bearing.case.pascals(),
+    };
+    Reported {
+        block: Block {
+            toe: reported(bearing.toe),
+            heel: reported(bearing.heel),
+            ..bearing.block
+        },
+        ..*bearing
+    }
+}
+
 /// The words of a section's steel: compression, least, needed, fails, even,
 /// arm capped, arm worked.
 fn steel_words(words: &mut Words, section: &Section, names: [&'static str; 7]) {
@@ -568,6 +780,14 @@ const STEM_HUNDREDTHS: [&str; 5] = [
     "stem-needed-not-whole",
     "stem-least-not-whole",
     "stem-least-even",
+];
+
+const HEEL_HUNDREDTHS: [&str; 5] = [
+    "heel-steel-fails-in-mm2",
+    "heel-steel-hundredth-short",
+    "heel-needed-not-whole",
+    "heel-least-not-whole",
+    "heel-least-even",
 ];
 
 /// The words of a section's hundredths: enough though not in whole mm2, a hundredth

@@ -1,18 +1,19 @@
-//! Quotients of products that 128 bits don't hold.
+//! Sums, products and quotients of numbers that 128 bits don't hold.
 
 use crate::Whole;
 
 /// A whole number from 0 to below 2^256, in parts of 64 bits, the highest first:
 /// of two numbers that one is greater whose first differing part is.
 #[derive(Clone, Copy, Debug, PartialEq, Eq, PartialOrd, Ord)]
-struct Wide([u64; 4]);
+pub struct Wide([u64; 4]);
 
 impl Wide {
+    pub const NOUGHT: Wide = Wide([0, 0, 0, 0]);
     const ONE: Wide = Wide([0, 0, 0, 1]);
 
     /// As on paper: part by part from the lowest, what a part can't hold going to
     /// the next.
-    fn times(self, factor: u64) -> Wide {
+    pub fn times(self, factor: u64) -> Wide {
         let mut product = [0; 4];
         let mut carried = 0;
         for (place, part) in product.iter_mut().zip(self.0).rev() {
@@ -24,34 +25,63 @@ impl Wide {
         Wide(product)
     }
 
-    fn product(factors: &[Whole]) -> Wide {
-        factors.iter().fold(Wide::ONE, |product, factor| {
+    /// Likewise.
+    pub fn plus(self, other: Wide) -> Wide {
+        let mut sum = [0; 4];
+        let mut carried = 0;
+        let parts = self.0.into_iter().zip(other.0);
+        for (place, (part, added)) in sum.iter_mut().zip(parts).rev() {
+            let both = u128::from(part) + u128::from(added) + carried;
+            *place = both as u64;
+            carried = both >> 64;
+        }
+        assert!(carried == 0, "a sum past 256 bits");
+        Wide(sum)
+    }
+
+    /// The product of factors from 0 to below 2^64.
+    pub fn product<'a>(factors: impl IntoIterator<Item = &'a Whole>) -> Wide {
+        factors.into_iter().fold(Wide::ONE, |product, factor| {
             product.times(u64::try_from(*factor).expect("a factor from 0 to below 2^64"))
         })
     }
+
+    /// The quotient rounded up: the least whole number that, times the lower number,
+    /// isn't below this one. The lower number is above 0.
+    pub fn over_rounded_up(&self, under: &Wide) -> Whole {
+        let is_too_small = |quotient: u64| under.times(quotient) < *self;
+        match is_too_small(0) {
+            true => (greatest_where(is_too_small) + 1) as Whole,
+            false => 0,
+        }
+    }
+
+    /// The quotient rounded down: the greatest whole number that, times the lower
+    /// number, isn't above this one. The lower number is above 0.
+    pub fn over_rounded_down(&self, under: &Wide) -> Whole {
+        greatest_where(|quotient| under.times(quotient) <= *self) as Whole
+    }
 }
 
-/// The product of some factors over that of others, rounded up: the least whole
-/// number that, times the lower product, isn't below the upper one. Factors are
-/// from 0 to below 2^64, those of the lower product above 0.
-pub fn quotient_up(over: &[Whole], under: &[Whole]) -> Whole {
-    let (over, under) = (Wide::product(over), Wide::product(under));
-    let is_too_small = |quotient: u64| under.times(quotient) < over;
-    if !is_too_small(0) {
-        return 0;
-    }
-    // The greatest number that is too small, bit by bit from the highest.
+/// The greatest number for which a fact holds, which holds from 0 up to it; bit by bit
+/// from the highest.
+fn greatest_where(holds: impl Fn(u64) -> bool) -> u64 {
     let greatest = (0..63).rev().fold(0, |found, bit| {
         let tried = found | 1 << bit;
-        if is_too_small(tried) {
+        if holds(tried) {
             tried
         } else {
             found
         }
     });
-    let quotient: u64 = greatest + 1;
-    assert!(quotient < 1 << 63, "a quotient past 63 bits");
-    quotient as Whole
+    assert!(greatest < (1 << 63) - 1, "a quotient past 63 bits");
+    greatest
+}
+
+/// The product of some factors over that of others, rounded up. Factors are from 0 to
+/// below 2^64, those of the lower product above 0.
+pub fn quotient_up(over: &[Whole], under: &[Whole]) -> Whole {
+    Wide::product(over).over_rounded_up(&Wide::product(under))
 }
 
 #[cfg(test)]
@@ -69,6 +99,39 @@ mod tests {
         assert_eq!(most.times(u64::MAX), square);
         assert_eq!(square.times(u64::MAX), Wide([0, u64::MAX - 2, 2, u64::MAX]));
         assert!(Wide([0, 0, 1, 0]) > most && Wide([1, 0, 0, 0]) > square);
+    }
+
+    #[test]
+    fn a_sum_carries_from_part_to_part() {
+        let most = Wide([0, 0, 0, u64::MAX]);
+        assert_eq!(most.plus(Wide::ONE), Wide([0, 0, 1, 0]));
+        let three = Wide([0, u64::MAX, u64::MAX, u64::MAX]);
+        assert_eq!(three.plus(most), Wide([1, 0, 0, u64::MAX - 1]));
+        assert_eq!(three.plus(Wide::NOUGHT), three);
+    }
+
+    #[test]
+    #[should_panic(expected = "a sum past 256 bits")]
+    fn a_sum_past_256_bits_is_told() {
+        let half = Wide([1 << 63, 0, 0, 0]);
+        half.plus(half);
+    }
+
+    #[test]
+    fn quotients_are_rounded_down() {
+        let quotient = |over: &[Whole], under: &[Whole]| {
+            Wide::product(over).over_rounded_down(&Wide::product(under))
+        };
+        assert_eq!(quotient(&[7], &[2]), 3);
+        assert_eq!(quotient(&[2, 3], &[2]), 3);
+        assert_eq!(quotient(&[1], &[1000, 1000]), 0);
+        assert_eq!(quotient(&[0, 5], &[9]), 0);
+        let three = [BIG, BIG, BIG];
+        assert_eq!(quotient(&three, &three), 1);
+        assert_eq!(quotient(&[BIG, BIG, BIG - 1], &three), 0);
+        assert_eq!(quotient(&three, &[BIG, BIG]), BIG);
+        // BIG^2 = (BIG + 1) (BIG - 1) + 1.
+        assert_eq!(quotient(&[BIG, BIG, 5], &[BIG - 1, 5]), BIG + 1);
     }
 
     #[test]

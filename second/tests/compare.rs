@@ -5,21 +5,26 @@ mod common;
 
 use common::borne_by_line;
 use second::answers::accept;
-use second::bearing::{Contact, Reported};
+use second::bearing::{Contact, Fraction, Reported};
 use second::compare::{run, Found, Until, Wish};
+use second::forces::weights;
 use second::generator::{numbered, samples, KINDS};
-use second::job_file::{field_in_range, read_numbers, Header, Reinforcement, Wall, WALL_FIELDS};
+use second::job_file::{
+    field_in_range, read_numbers, Direction, Header, Load, Reinforcement, Wall, WALL_FIELDS,
+};
 use second::office::{Office, Packed, Second, TEXT_ROOM};
 use second::rounding::{down, half_up, up};
 use second::section::{check_section, provided_steel, shear_passes, Effects, Section};
-use second::sheet_line::{work_job, Worked, LINE_NUMBERS, SHEAR, STEM_STEEL, TOE_STEEL};
+use second::sheet_line::{
+    work_job, Worked, HEEL_STEEL, LINE_NUMBERS, SHEAR, STEM_STEEL, TOE_STEEL,
+};
 use second::traits::of;
-use second::wide::quotient_up;
+use second::wide::{quotient_up, Wide};
 use second::writing::records;
 use second::Whole;
 use std::time::Duration;
 
-const JOBS: usize = 13 * KINDS.len();
+const JOBS: usize = 23 * KINDS.len();
 
 fn wish(threads: usize) -> Wish {
     Wish {
@@ -95,6 +100,40 @@ faults! {
     SteelUnrounded,
     LeastThoughCompression,
     CompressionPasses,
+    HeelPeakReported,
+    HeelByServiceBlock,
+    HeelToeTriangleLeftOut,
+    HeelTriangleAsFull,
+    HeelMomentAboutFace,
+    HeelMomentAboutBack,
+    HeelMomentOfHeelAlone,
+    HeelShearFromMiddle,
+    HeelBearingRoundedUp,
+    HeelSumByParts,
+    HeelSumRoundedDown,
+    HeelSurchargeAt14,
+    HeelFillAt16,
+    HeelFillAtHalfHeel,
+    HeelFillAtItsEnd,
+    HeelFillUnrounded,
+    HeelSlabFromBaseWeight,
+    HeelSlabOfHeelAlone,
+    HeelLoadsCounted,
+    HeelNegativeKept,
+    HeelNoughtUnchecked,
+    HeelCheckedWithoutHeel,
+    HeelCheckedWithoutBlock,
+    HeelCoverOfToe,
+    HeelBarOfStem,
+    HeelSpacingOfStem,
+    HeelStressOfToe,
+    HeelThicknessOfStem,
+    HeelSteelByShear,
+    HeelShearNotIn128,
+    HeelSteelIn32,
+    HeelNumbersBeforeStems,
+    HeelFailuresOneByte,
+    HeelTwoHexDigits,
     PlaceOfLoad,
     PlaceOfLoadMultiplied,
     WallFromNought,
@@ -137,7 +176,7 @@ faults! {
     OneByteTooFewTaken,
     HeaderThoughRefused,
     BytesOfRefusal,
-    WallOf32Numbers,
+    WallOf36Numbers,
     NoWallsTaken,
     WallsBeforeCounts,
     LoadsBeforeCounts,
@@ -168,7 +207,7 @@ faults! {
 struct Wrong(Fault);
 
 fn numbers_of(job: &[u8]) -> usize {
-    accept(job).map_or(16, |job| 16 * job.walls.len())
+    accept(job).map_or(LINE_NUMBERS, |job| LINE_NUMBERS * job.walls.len())
 }
 
 /// A refusal 5 of some walls with a place that is made wrong.
@@ -390,6 +429,285 @@ fn toe_checked(fault: Fault, wall: &Wall, worked: &Worked) -> Option<Section> {
     ))
 }
 
+/// What the ground bears under a heel, by the trapeziums and triangles that a block leaves
+/// there; something may be wrong. Lengths are from the toe, in parts of a mm.
+struct Behind {
+    fault: Fault,
+    kind: Contact,
+    toe: Fraction,
+    heel: Fraction,
+    contact: Whole,
+    end: Whole,
+    parts: Whole,
+    pascals: Whole,
+}
+
+impl Behind {
+    fn of(fault: Fault, wall: &Wall, bearing: &Reported) -> Behind {
+        let Reported { block, case, .. } = bearing;
+        let reported = |over| Fraction {
+            over,
+            under: case.pascals(),
+        };
+        let (toe, heel) = match fault {
+            HeelPeakReported => (reported(bearing.toe), reported(bearing.heel)),
+            _ => (block.toe, block.heel),
+        };
+        let parts = 2 * block.contact.under;
+        let end = parts * wall.base_length();
+        let full = fault == HeelTriangleAsFull && block.kind == Contact::HeelTriangle;
+        Behind {
+            fault,
+            kind: block.kind,
+            toe,
+            heel,
+            contact: if full { end } else { 2 * block.contact.over },
+            end,
+            parts,
+            pascals: case.pascals(),
+        }
+    }
+
+    /// Products of the toe's pressure and of the heel's, over one lower number.
+    fn toe_times(&self, lengths: &[Whole]) -> Wide {
+        let over = [self.toe.over, self.heel.under, self.pascals];
+        Wide::product(over.iter().chain(lengths))
+    }
+
+    fn heel_times(&self, lengths: &[Whole]) -> Wide {
+        let over = [self.heel.over, self.toe.under, self.pascals];
+        Wide::product(over.iter().chain(lengths))
+    }
+
+    /// Twice the force past a point times the contact, and six times its moment about
+    /// the point times the contact.
+    fn past(&self, point: Whole) -> (Wide, Wide) {
+        let (c, rest) = (self.contact, self.end - point);
+        let start = self.end - c;
+        match self.kind {
+            Contact::ToeTriangle => {
+                let rest = match self.fault {
+                    HeelToeTriangleLeftOut => 0,
+                    _ => (c - point).max(0),
+                };
+                let force = self.toe_times(&[rest, rest]);
+                (force, self.toe_times(&[rest, rest, rest]))
+            }
+            Contact::HeelTriangle if point < start => {
+                let arms = 3 * rest - c;
+                (self.heel_times(&[c, c]), self.heel_times(&[c, c, arms]))
+            }
+            // A trapezium; of the toe's pressure there is as much left as there is rest.
+            _ => {
+                let toe = match self.kind {
+                    Contact::Whole => rest,
+                    _ => 0,
+                };
+                let force = self.toe_times(&[toe, rest]);
+                let moment = self.toe_times(&[toe, rest, rest]);
+                let into = point - start;
+                (
+                    force.plus(self.heel_times(&[into + c, rest])),
+                    moment.plus(self.heel_times(&[into + 2 * c, rest, rest])),
+                )
+            }
+        }
+    }
+
+    /// A product of the above in N or N mm: (N/m2) x mm is N/1000.
+    fn rounded(&self, over: Wide, scale: &[Whole]) -> Whole {
+        let under = [self.toe.under, self.heel.under, self.contact, 1000];
+        let under = Wide::product(under.iter().chain(scale));
+        match self.fault {
+            HeelBearingRoundedUp => over.over_rounded_up(&under),
+            _ => over.over_rounded_down(&under),
+        }
+    }
+
+    fn borne(&self, wall: &Wall) -> Effects {
+        let parts = self.parts;
+        let face = parts * wall.toe;
+        let middle = face + parts / 2 * wall.stem_thickness;
+        let back = face + parts * wall.stem_thickness;
+        let sheared_from = match self.fault {
+            HeelShearFromMiddle => middle,
+            _ => back,
+        };
+        let (force, _) = self.past(sheared_from);
+        let (_, moment) = match self.fault {
+            HeelMomentAboutFace => self.past(face),
+            HeelMomentAboutBack => self.past(back),
+            HeelMomentOfHeelAlone => {
+                let (force, moment) = self.past(back);
+                let thrice = 3 * (back - middle);
+                (force, moment.plus(force.times(thrice as u64)))
+            }
+            _ => self.past(middle),
+        };
+        Effects {
+            shear: self.rounded(force, &[2, parts]),
+            moment: self.rounded(moment, &[6, parts, parts]),
+        }
+    }
+}
+
+/// A load on a heel: tenths of a N, and twice its arm in mm.
+type Standing = (Whole, Whole);
+
+/// Fill, surcharge, and what else is taken for them.
+fn standing_on_heel(fault: Fault, wall: &Wall, loads: &[Load]) -> Vec<Standing> {
+    let arm = match fault {
+        HeelFillAtHalfHeel | HeelMomentAboutBack => wall.heel,
+        HeelFillAtItsEnd => 2 * wall.heel + wall.stem_thickness,
+        HeelMomentAboutFace => wall.heel + 2 * wall.stem_thickness,
+        _ => wall.heel + wall.stem_thickness,
+    };
+    let [_, _, saturated, moist, surcharge] = weights(wall).map(|weight| weight.vertical);
+    let fill_factor = if fault == HeelFillAt16 { 16 } else { 14 };
+    let surcharge_factor = if fault == HeelSurchargeAt14 { 14 } else { 16 };
+    let mut standing = vec![
+        (fill_factor * (saturated + moist), arm),
+        (surcharge_factor * surcharge, arm),
+    ];
+    if fault == HeelLoadsCounted {
+        let back = wall.toe + wall.stem_thickness;
+        let over_heel = |load: &&Load| load.direction == Direction::Down && load.position > back;
+        let from_middle = |load: &Load| 2 * (load.position - back) + wall.stem_thickness;
+        let loads = loads.iter().filter(over_heel);
+        standing.extend(loads.map(|load| (14 * load.dead + 16 * load.live, from_middle(load))));
+    }
+    standing
+}
+
+/// Parts of a N and of a N mm in which every weight on a heel is whole.
+const N: Whole = 1_000_000;
+const N_MM: Whole = 8_000_000;
+
+/// The base's own weight in these parts.
+fn slab_of_heel(fault: Fault, wall: &Wall) -> Effects {
+    let a_mm = 14 * wall.base_density * wall.base_thickness;
+    let (l, heel) = (wall.base_length(), wall.heel);
+    let twice_b = match fault {
+        HeelMomentAboutFace => 2 * (wall.stem_thickness + heel),
+        HeelMomentAboutBack => 2 * heel,
+        _ => 2 * heel + wall.stem_thickness,
+    };
+    match fault {
+        HeelSlabFromBaseWeight => {
+            let [_, base, ..] = weights(wall).map(|weight| weight.vertical);
+            Effects {
+                shear: up(N / 10 * 14 * base * heel, l),
+                moment: up(N_MM / 80 * 14 * base * twice_b * twice_b, l),
+            }
+        }
+        HeelSlabOfHeelAlone => Effects {
+            shear: a_mm * heel,
+            moment: 4 * a_mm * heel * (heel + wall.stem_thickness),
+        },
+        _ => Effects {
+            shear: a_mm * heel,
+            moment: a_mm * twice_b * twice_b,
+        },
+    }
+}
+
+/// All that weighs on a heel.
+fn down_on_heel(fault: Fault, wall: &Wall, loads: &[Load]) -> Effects {
+    let slab = slab_of_heel(fault, wall);
+    let mut parts = vec![(slab.shear, slab.moment)];
+    if fault == HeelFillUnrounded {
+        let wet = wall.water_on_base();
+        let fill = wall.saturated_density * wet + wall.moist_density * (wall.stem_height - wet);
+        let exact = wall.heel * (14 * fill + 16 * 1000 * wall.surcharge);
+        parts.push((exact, 4 * exact * (wall.heel + wall.stem_thickness)));
+    } else {
+        let standing = standing_on_heel(fault, wall, loads);
+        parts.extend(
+            standing
+                .iter()
+                .map(|(tenths, twice_arm)| (N / 10 * tenths, N_MM / 20 * tenths * twice_arm)),
+        );
+    }
+    let sum = |of: fn(&(Whole, Whole)) -> Whole, unit: Whole| -> Whole {
+        let each = parts.iter().map(of);
+        match fault {
+            HeelSumByParts => each.map(|part| up(part, unit)).sum(),
+            HeelSumRoundedDown => down(each.sum(), unit),
+            _ => up(each.sum(), unit),
+        }
+    };
+    Effects {
+        shear: sum(|part| part.0, N),
+        moment: sum(|part| part.1, N_MM),
+    }
+}
+
+/// V and M of a heel, worked once more; a step may be wrong.
+fn effects_on_heel(fault: Fault, wall: &Wall, loads: &[Load], worked: &Worked) -> Effects {
+    let bearing = match fault {
+        HeelByServiceBlock => worked.service_bearing.given(),
+        _ => worked.factored_bearing.given(),
+    };
+    let nothing = Effects {
+        shear: 0,
+        moment: 0,
+    };
+    let up = bearing.map_or(nothing, |b| Behind::of(fault, wall, b).borne(wall));
+    let down = down_on_heel(fault, wall, loads);
+    let least = if fault == HeelNegativeKept {
+        Whole::MIN
+    } else {
+        0
+    };
+    Effects {
+        shear: (down.shear - up.shear).max(least),
+        moment: (down.moment - up.moment).max(least),
+    }
+}
+
+/// The bars of a heel, of which some may be another's.
+fn bars_of_heel(fault: Fault, wall: &Wall) -> Reinforcement {
+    let Wall {
+        toe_bars,
+        stem_bars,
+        heel_bars,
+        ..
+    } = wall;
+    let mut bars = *heel_bars;
+    match fault {
+        HeelCoverOfToe => bars.cover = toe_bars.cover,
+        HeelBarOfStem => bars.bar = stem_bars.bar,
+        HeelSpacingOfStem => bars.spacing = stem_bars.spacing,
+        HeelStressOfToe => bars.concrete_shear_stress = toe_bars.concrete_shear_stress,
+        _ => {}
+    }
+    bars
+}
+
+/// The heel with these effects, where there is one to check.
+fn heel_checked(fault: Fault, wall: &Wall, loads: &[Load], worked: &Worked) -> Option<Section> {
+    let has_heel = wall.heel > 0 || fault == HeelCheckedWithoutHeel;
+    let has_block = worked.factored_bearing.given().is_some() || fault == HeelCheckedWithoutBlock;
+    if !has_heel || !has_block {
+        return None;
+    }
+    let effects = effects_on_heel(fault, wall, loads, worked);
+    let left = effects.shear != 0 || effects.moment != 0;
+    if fault == HeelNoughtUnchecked && !left {
+        return None;
+    }
+    let thickness = match fault {
+        HeelThicknessOfStem => wall.stem_thickness,
+        _ => wall.base_thickness,
+    };
+    Some(check_section(
+        wall,
+        thickness,
+        &bars_of_heel(fault, wall),
+        effects,
+    ))
+}
+
 /// What a section requires, and whether its cage fails; a step may be wrong. Areas are in
 /// hundredths of mm2.
 fn steel_checked(
@@ -453,6 +771,23 @@ fn provided_of(fault: Fault, bars_of_a_metre: Whole, spacing: Whole) -> Whole {
     }
 }
 
+/// A sheet whose failures have two digits where two are enough, and how long it is.
+fn in_two_digits(sheet: &mut [u8]) -> usize {
+    let text = String::from_utf8(sheet.to_vec()).unwrap();
+    let shorter: String = text
+        .lines()
+        .map(|line| format!("{}\n", line.replacen(" 0", " ", usize::from(is_wall(line)))))
+        .collect();
+    sheet[..shorter.len()].copy_from_slice(shorter.as_bytes());
+    shorter.len()
+}
+
+/// Whether a line is a wall's and its failures begin with 0.
+fn is_wall(line: &str) -> bool {
+    let failures = line.split(' ').nth(1).unwrap_or_default();
+    !line.starts_with("refused") && failures.starts_with('0')
+}
+
 impl Office for Wrong {
     fn calculate(&self, job: &[u8], out: &mut [i64]) -> Packed {
         let numbers = numbers_of(job);
@@ -482,6 +817,7 @@ impl Office for Wrong {
             LengthOfText if printed > 0 => return printed - 1,
             ByteBehindText if printed > 0 => out[printed] = 0,
             TextIntoLess if out.len() == TEXT_ROOM - 1 => out[0] = b'1',
+            HeelTwoHexDigits if printed > 0 => return in_two_digits(&mut out[..printed]),
             WallAloneInText if out.starts_with(b"refused 5 ") => {
                 out[printed - 3] = b'\n';
                 return printed - 2;
@@ -509,7 +845,7 @@ impl Office for Wrong {
         answer
     }
 
-    fn has_failed(&self, failures: u8, check: u8) -> bool {
+    fn has_failed(&self, failures: u16, check: u16) -> bool {
         match (self.0, check) {
             // Of a wall's own failures alone, which never have 4 and 8 both.
             (SteelOfTheOther, TOE_STEEL) if failures & 12 != 12 => failures & STEM_STEEL != 0,
@@ -565,40 +901,72 @@ impl Office for Wrong {
 }
 
 impl Wrong {
-    /// The toe's V and M, both areas, and the failures that hang on them, as a wrong
-    /// bearing, a wrong lever arm or a wrong rule for steel gives them.
+    /// The V and M of toe and heel, all three areas, and the failures that hang on them,
+    /// as a wrong bearing, a wrong lever arm or a wrong rule for steel gives them.
     fn spoil_sections(&self, job: &[u8], out: &mut [i64]) {
         let job = accept(job).unwrap();
+        let loads = job.loads_by_wall();
         let lines = out.chunks_exact_mut(LINE_NUMBERS);
-        for ((wall, worked), line) in job.walls.iter().zip(work_job(&job)).zip(lines) {
-            line[1] &= !i64::from(TOE_STEEL | STEM_STEEL | SHEAR);
+        let walls = job.walls.iter().zip(&loads).zip(work_job(&job));
+        for (((wall, loads), worked), line) in walls.zip(lines) {
+            line[1] &= !i64::from(TOE_STEEL | STEM_STEEL | SHEAR | HEEL_STEEL);
             if let Some(toe) = toe_checked(self.0, wall, &worked) {
-                line[10] = toe.effects.shear as i64;
-                line[11] = toe.effects.moment as i64;
-                self.spoil_section(wall, &wall.toe_bars, &toe, &mut line[1..=12], TOE_STEEL);
+                let bits = (TOE_STEEL, SHEAR);
+                self.spoil_section(wall, &wall.toe_bars, &toe, &mut line[1..=12], bits);
             }
-            let stem = &worked.stem;
-            self.spoil_section(wall, &wall.stem_bars, stem, &mut line[1..], STEM_STEEL);
+            let (stem, bits) = (&worked.stem, (STEM_STEEL, SHEAR));
+            self.spoil_section(wall, &wall.stem_bars, stem, &mut line[1..=15], bits);
+            line[16..].fill(0);
+            if let Some(heel) = heel_checked(self.0, wall, loads, &worked) {
+                let (bars, bits) = (bars_of_heel(self.0, wall), self.bits_of_heel());
+                self.spoil_section(wall, &bars, &heel, &mut line[1..], bits);
+            }
+            match self.0 {
+                HeelNumbersBeforeStems => line[13..].rotate_left(3),
+                HeelFailuresOneByte => line[1] &= 0xff,
+                _ => {}
+            }
         }
     }
 
-    /// From the failures to the area of one section.
+    /// The bits of a heel's steel and of its shear.
+    fn bits_of_heel(&self) -> (u16, u16) {
+        match self.0 {
+            HeelSteelByShear => (HEEL_STEEL, HEEL_STEEL),
+            HeelShearNotIn128 => (HEEL_STEEL, 0),
+            HeelSteelIn32 => (TOE_STEEL, SHEAR),
+            _ => (HEEL_STEEL, SHEAR),
+        }
+    }
+
+    /// From the failures to V, M and the area of one section, which stand last.
     fn spoil_section(
         &self,
         wall: &Wall,
         bars: &Reinforcement,
         section: &Section,
         line: &mut [i64],
-        steel: u8,
+        (steel_bit, shear_bit): (u16, u16),
     ) {
         let (required, fails) = steel_checked(self.0, wall, bars, section);
-        line[line.len() - 1] = required as i64;
+        let Effects { shear, moment } = section.effects;
+        let (failures, numbers) = line.split_first_mut().unwrap();
+        let [.., printed_shear, printed_moment, area] = numbers else {
+            panic!("a line that is too short");
+        };
+        *printed_shear = shear as i64;
+        *printed_moment = moment as i64;
+        *area = required as i64;
         if fails {
-            line[0] |= i64::from(steel);
+            *failures |= i64::from(steel_bit);
         }
-        let (shear, stress) = (section.effects.shear, bars.concrete_shear_stress);
-        if !shear_passes(shear, section.twice_depth, stress, wall.fcu) {
-            line[0] |= i64::from(SHEAR);
+        if !shear_passes(
+            shear,
+            section.twice_depth,
+            bars.concrete_shear_stress,
+            wall.fcu,
+        ) {
+            *failures |= i64::from(shear_bit);
         }
     }
 
@@ -654,13 +1022,13 @@ impl Wrong {
         let bytes = answer.bytes() as usize;
         match self.0 {
             OffsetFromLoads => {
-                let offset = (12 + 124 * (loads.len() / 5)) as u16;
+                let offset = (12 + 140 * (loads.len() / 5)) as u16;
                 out[8..10].copy_from_slice(&offset.to_le_bytes());
             }
             FieldTurnedRound => out[16..20].reverse(),
             LoadsBeforeWalls => out[12..bytes].rotate_right(4 * loads.len()),
             LastRecordLeftOut => {
-                let start = bytes - if loads.is_empty() { 124 } else { 20 };
+                let start = bytes - if loads.is_empty() { 140 } else { 20 };
                 out[start..bytes].copy_from_slice(&before[start..bytes]);
             }
             ByteBehindFile if out.len() > bytes => out[bytes] = 0,
@@ -692,7 +1060,7 @@ impl Wrong {
                 return Packed((needed as u64) << 48);
             }
             (HeaderThoughRefused, _) if out.len() >= 12 => out[..2].copy_from_slice(&[1, 0]),
-            (BytesOfRefusal, _) => return Packed(answer.0 | 136 << 48),
+            (BytesOfRefusal, _) => return Packed(answer.0 | 152 << 48),
             (AllLoadsForSixFirst, 7) => {
                 let behind = &loads[5 * answer.place() as usize..];
                 let later = Second.write(walls, behind, &mut []);
@@ -716,9 +1084,9 @@ impl Wrong {
             }
         };
         match (self.0, walls.len(), loads.len()) {
-            (WallOf32Numbers, 32, _) => Second.write(&walls[..31], loads, out),
+            (WallOf36Numbers, 36, _) => Second.write(&walls[..35], loads, out),
             (NoWallsTaken, 0, 0) => Packed(12 << 48),
-            (WallsBeforeCounts, 2015, _) => in_range(&walls[31..], loads),
+            (WallsBeforeCounts, 2275, _) => in_range(&walls[35..], loads),
             (LoadsBeforeCounts, _, 2565) => in_range(walls, &loads[5..]),
             (CountCutTo16Bits, _, 327_680..) => {
                 Second.write(walls, &loads[..loads.len() - 327_680], out)
@@ -745,13 +1113,24 @@ fn nothing_differs_from_itself() {
     assert!(table.contains("| calls of records | taken apart "));
     assert!(table.contains("| calls of write | written "));
     assert!(table.contains("| toe block's end, in toes | before the face "));
-    for row in ["toe steel, in toes", "stem steel, in walls"] {
+    assert!(table.contains("| toe block's end, in heels | before the middle "));
+    assert!(table.contains("| full block, in heels | with pressure at the base's end "));
+    for row in [
+        "toe steel, in toes",
+        "stem steel, in walls",
+        "heel steel, in heels",
+    ] {
         let start = format!("| {row} | enough though not in whole mm2 ");
         assert!(table.contains(&start), "{table}");
     }
     let nones = [
-        " face 0,",
+        " face 0",
         " middle 0",
+        " end 0,",
+        " there 0",
+        " heel 0,",
+        " block 0",
+        " alone 0",
         " mm2 0,",
         " hundredth 0,",
         " short 0",
@@ -802,7 +1181,7 @@ fn words_of_the_arm_stand_where_its_faults_show() {
         line[15]
     };
     let mut shown = [0; 5];
-    for (name, sample) in samples(4, 3 * JOBS) {
+    for (name, sample) in samples(4, 2 * JOBS) {
         let (job, words) = (&sample.bytes, of(&sample.bytes).1);
         if !words.contains("one-wall") || !words.contains("stem-steel-needed") {
             continue;
@@ -881,18 +1260,38 @@ fn faults_of_the_bearing_show_where_its_words_stand() {
     assert!(shown.iter().all(|count| *count > 0), "{shown:?}");
 }
 
-const NEEDED: &[&str] = &["toe-steel-needed", "stem-steel-needed"];
-const LEAST: &[&str] = &["toe-steel-least", "stem-steel-least"];
-const NEEDED_NOT_WHOLE: &[&str] = &["toe-needed-not-whole", "stem-needed-not-whole"];
-const LEAST_NOT_WHOLE: &[&str] = &["toe-least-not-whole", "stem-least-not-whole"];
-const PASSES: &[&str] = &["bit-32-clear", "bit-64-clear"];
-const FAILED_IN_MM2: &[&str] = &["toe-steel-failed-in-mm2", "stem-steel-failed-in-mm2"];
-const EVEN: &[&str] = &["toe-steel-even", "stem-steel-even"];
-const LEAST_EVEN: &[&str] = &["toe-least-even", "stem-least-even"];
-const HUNDREDTH_SHORT: &[&str] = &["toe-steel-hundredth-short", "stem-steel-hundredth-short"];
-const COMPRESSION: &[&str] = &["toe-compression-steel", "stem-compression-steel"];
+const NEEDED: &[&str] = &["toe-steel-needed", "stem-steel-needed", "heel-steel-needed"];
+const LEAST: &[&str] = &["toe-steel-least", "stem-steel-least", "heel-steel-least"];
+const NEEDED_NOT_WHOLE: &[&str] = &[
+    "toe-needed-not-whole",
+    "stem-needed-not-whole",
+    "heel-needed-not-whole",
+];
+const LEAST_NOT_WHOLE: &[&str] = &[
+    "toe-least-not-whole",
+    "stem-least-not-whole",
+    "heel-least-not-whole",
+];
+const PASSES: &[&str] = &["bit-32-clear", "bit-64-clear", "bit-256-clear"];
+const FAILED_IN_MM2: &[&str] = &[
+    "toe-steel-failed-in-mm2",
+    "stem-steel-failed-in-mm2",
+    "heel-steel-fails-in-mm2",
+];
+const EVEN: &[&str] = &["toe-steel-even", "stem-steel-even", "heel-steel-even"];
+const LEAST_EVEN: &[&str] = &["toe-least-even", "stem-least-even", "heel-least-even"];
+const HUNDREDTH_SHORT: &[&str] = &[
+    "toe-steel-hundredth-short",
+    "stem-steel-hundredth-short",
+    "heel-steel-hundredth-short",
+];
+const COMPRESSION: &[&str] = &[
+    "toe-compression-steel",
+    "stem-compression-steel",
+    "heel-compression-steel",
+];
 
-/// Words of toe and stem, of some facts.
+/// Words of toe, stem and heel, of some facts.
 type Own = &'static [&'static [&'static str]];
 
 /// Every fault of the steel, the words without which it can't show, and those beside
@@ -935,12 +1334,150 @@ const STEEL_FAULTS: [(Fault, Own, Own); 18] = [
 #[test]
 fn faults_of_the_steel_show_where_its_words_stand() {
     let mut shown = [0; STEEL_FAULTS.len()];
-    for (name, sample) in samples(4, 3 * JOBS) {
+    for (name, sample) in samples(4, 2 * JOBS) {
         let (job, words) = (&sample.bytes, of(&sample.bytes).1);
         let stands = |own: Own| own.concat().iter().any(|word| words.contains(word));
         let due = numbers(&Second, job);
         for ((fault, own, always), shown) in STEEL_FAULTS.iter().zip(&mut shown) {
             let shows = numbers(&Wrong(*fault), job) != due;
+            assert!(stands(own) || !shows, "{name}: {fault:?}");
+            assert!(shows || !stands(always), "{name}: {fault:?}");
+            *shown += usize::from(shows);
+        }
+    }
+    assert!(shown.iter().all(|count| *count >= 3), "{shown:?}");
+}
+
+const CHECKED: &[&str] = &["heel-checked"];
+const BELOW_0: &[&str] = &["heel-shear-below-0", "heel-moment-below-0"];
+const ENDS_PAST_MIDDLE: &[&str] = &[
+    "under-heel-toe-block-ends-before-back",
+    "under-heel-toe-block-ends-at-back",
+    "under-heel-toe-block-ends-past-back",
+];
+const FULL_UNDER_HEEL: &[&str] = &["under-heel-whole", "under-heel-whole-to-its-end"];
+const STARTS_UNDER_HEEL: &[&str] = &[
+    "under-heel-heel-block-starts-before-middle",
+    "under-heel-heel-block-starts-at-middle",
+    "under-heel-heel-block-starts-before-back",
+];
+const STARTS_BEHIND: &[&str] = &[
+    "under-heel-heel-block-starts-at-back",
+    "under-heel-heel-block-starts-past-back",
+];
+const ANY_HEEL: &[&str] = &[
+    "heel-checked",
+    "heel-unchecked-no-heel",
+    "heel-unchecked-no-block",
+];
+
+/// Every fault of the heel, the words without which it can't show, and those beside which
+/// it always does.
+const HEEL_FAULTS: [(Fault, Own, Own); 34] = [
+    (
+        HeelPeakReported,
+        &[&["heel-peak-shows"]],
+        &[&["heel-peak-shows"]],
+    ),
+    (HeelByServiceBlock, &[CHECKED], &[]),
+    (HeelToeTriangleLeftOut, &[ENDS_PAST_MIDDLE], &[]),
+    (HeelTriangleAsFull, &[STARTS_UNDER_HEEL, STARTS_BEHIND], &[]),
+    (HeelMomentAboutFace, &[CHECKED], &[]),
+    (HeelMomentAboutBack, &[CHECKED], &[]),
+    (
+        HeelMomentOfHeelAlone,
+        &[ENDS_PAST_MIDDLE, FULL_UNDER_HEEL, STARTS_UNDER_HEEL],
+        &[],
+    ),
+    (
+        HeelShearFromMiddle,
+        &[ENDS_PAST_MIDDLE, FULL_UNDER_HEEL, STARTS_UNDER_HEEL],
+        &[],
+    ),
+    (
+        HeelBearingRoundedUp,
+        &[&["heel-bearing-not-whole"]],
+        &[&["heel-bearing-not-whole"]],
+    ),
+    (
+        HeelSumByParts,
+        &[&["heel-sum-by-parts"]],
+        &[&["heel-sum-by-parts"]],
+    ),
+    (
+        HeelSumRoundedDown,
+        &[&["heel-sum-not-whole"]],
+        &[&["heel-sum-not-whole"]],
+    ),
+    (HeelSurchargeAt14, &[&["heel-surcharge"]], &[]),
+    (HeelFillAt16, &[CHECKED], &[]),
+    (HeelFillAtHalfHeel, &[CHECKED], &[]),
+    (HeelFillAtItsEnd, &[CHECKED], &[]),
+    (HeelFillUnrounded, &[CHECKED], &[]),
+    (HeelSlabFromBaseWeight, &[CHECKED], &[]),
+    (HeelSlabOfHeelAlone, &[CHECKED], &[]),
+    (HeelLoadsCounted, &[&["heel-loaded"]], &[]),
+    (HeelNegativeKept, &[BELOW_0], &[BELOW_0]),
+    (HeelNoughtUnchecked, &[&["heel-shear-below-0"]], &[]),
+    (HeelCheckedWithoutHeel, &[&["heel-unchecked-no-heel"]], &[]),
+    (
+        HeelCheckedWithoutBlock,
+        &[&["heel-unchecked-no-block"]],
+        &[&["heel-unchecked-no-block"]],
+    ),
+    (HeelCoverOfToe, &[CHECKED], &[]),
+    (HeelBarOfStem, &[CHECKED], &[]),
+    (HeelSpacingOfStem, &[CHECKED], &[]),
+    (HeelStressOfToe, &[CHECKED], &[]),
+    (HeelThicknessOfStem, &[CHECKED], &[]),
+    (
+        HeelSteelByShear,
+        &[&["heel-shear-fails"]],
+        &[&["heel-shear-fails-alone"]],
+    ),
+    (
+        HeelShearNotIn128,
+        &[&["heel-shear-fails-alone"]],
+        &[&["heel-shear-fails-alone"]],
+    ),
+    (
+        HeelSteelIn32,
+        &[&["heel-steel-fails"]],
+        &[&["heel-steel-fails"]],
+    ),
+    (HeelNumbersBeforeStems, &[ANY_HEEL], &[]),
+    (
+        HeelFailuresOneByte,
+        &[&["bit-256-set"]],
+        &[&["bit-256-set"]],
+    ),
+    (
+        HeelTwoHexDigits,
+        &[&["bit-256-clear"]],
+        &[&["bit-256-clear"]],
+    ),
+];
+
+/// The printed sheet.
+fn text(office: &dyn Office, job: &[u8]) -> Vec<u8> {
+    let mut out = vec![0; TEXT_ROOM];
+    let printed = office.text(job, &mut out);
+    out.truncate(printed);
+    out
+}
+
+/// A fault of the heel shows only in jobs with a word of its own, and in every job with a
+/// word that hangs on nothing else.
+#[test]
+fn faults_of_the_heel_show_where_its_words_stand() {
+    let mut shown = [0; HEEL_FAULTS.len()];
+    for (name, sample) in samples(4, 2 * JOBS) {
+        let (job, words) = (&sample.bytes, of(&sample.bytes).1);
+        let stands = |own: Own| own.concat().iter().any(|word| words.contains(word));
+        let due = (numbers(&Second, job), text(&Second, job));
+        for ((fault, own, always), shown) in HEEL_FAULTS.iter().zip(&mut shown) {
+            let office = Wrong(*fault);
+            let shows = (numbers(&office, job), text(&office, job)) != due;
             assert!(stands(own) || !shows, "{name}: {fault:?}");
             assert!(shows || !stands(always), "{name}: {fault:?}");
             *shown += usize::from(shows);
@@ -958,7 +1495,7 @@ fn what_differs_is_said() {
     assert!(words.ends_with(&format!("place 0, highest bits 0) {not}")));
     let words = said(NumberBehind);
     assert!(words.starts_with("calculate, ") && words.contains(" holds 0 and not -922"));
-    let words = "check 255 in failures 0c: the answer is true and not false";
+    let words = "check 255 in failures 120: the answer is true and not false";
     assert_eq!(said(AnyBitOfNumber), words);
     assert_eq!(said(Panic), "a panic: a ninth load");
 }
@@ -974,10 +1511,10 @@ fn what_differs_in_places_is_said() {
     };
     let answer = |number, place| format!("(number {number}, place {place}, highest bits 0)");
     let wall = |given, due| ("refused-wall".into(), answer(5, given), answer(5, due));
-    assert_eq!(said(WallAlone), wall(2, 204));
-    assert_eq!(said(WallFromNought), wall(104, 204));
-    assert_eq!(said(FieldFromNought), wall(203, 204));
-    assert_eq!(said(HeightsAfterWater), wall(309, 302));
+    assert_eq!(said(WallAlone), wall(1, 106));
+    assert_eq!(said(WallFromNought), wall(6, 106));
+    assert_eq!(said(FieldFromNought), wall(105, 106));
+    assert_eq!(said(HeightsAfterWater), wall(109, 102));
     let header = |given, due| ("refused-offset".into(), answer(given, 0), answer(due, 0));
     assert_eq!(said(TenBeforeFour), header(10, 4));
     assert_eq!(said(FourForInputsLength), header(4, 10));
@@ -986,20 +1523,20 @@ fn what_differs_in_places_is_said() {
 #[test]
 fn what_differs_in_writing_is_said() {
     let said = |fault| found(&Wrong(fault), 1).map_or(String::new(), |found| found.what);
-    let own = "write of 93 and 10 numbers (the job's own), 424 bytes lent: ";
+    let own = "write of 105 and 25 numbers (the job's own), 532 bytes lent: ";
     let words = said(CountOfBytes);
     assert!(words.starts_with(own), "{words}");
-    assert!(words.contains(" highest bits 423) and not (number 0, place 0, highest bits 424)"));
+    assert!(words.contains(" highest bits 531) and not (number 0, place 0, highest bits 532)"));
     let words = said(LastRecordLeftOut);
-    assert!(words.starts_with(&format!("{own}place 404 of what was lent")));
-    let words = said(WallOf32Numbers);
-    let changed = "write of 32 and 10 numbers (one wall of 32 numbers), 176 bytes lent: ";
-    let given = "the answer is (number 6, place 1, ";
+    assert!(words.starts_with(&format!("{own}place 512 of what was lent")));
+    let words = said(WallOf36Numbers);
+    let changed = "write of 36 and 25 numbers (a wall field at random, one wall of 36 numbers), 252 bytes lent: ";
+    let given = "the answer is (number 6, place 3, ";
     assert!(words.starts_with(&format!("{changed}{given}")), "{words}");
     let words = said(NumberBehindLoads);
     assert!(words.starts_with("records, "), "{words}");
     assert!(
-        words.contains(" numbers lent: in the loads place 10 of what was lent, from 0, holds 0")
+        words.contains(" numbers lent: in the loads place 25 of what was lent, from 0, holds 0")
     );
 }
 

@@ -7,10 +7,11 @@ use second::answers::accept;
 use second::bearing::Contact::{self, HeelTriangle, ToeTriangle};
 use second::generator::draft::ends;
 use second::generator::{sample, samples, Due, KINDS};
+use second::heel::Reach;
 use second::job_file::{
     field_in_range, read_record, Header, RawWall, HEADER_BYTES, WALL_BYTES, WALL_FIELDS,
 };
-use second::section::greatest_moment;
+use second::section::{greatest_moment, Effects};
 use second::sheet_line::{work_job, work_wall};
 use second::toe::Tip::{self, AtFace, AtMiddle, BeforeFace, BeforeMiddle, PastMiddle};
 use second::traits::{line, of, VOCABULARY};
@@ -36,7 +37,7 @@ fn the_bytes_of_a_seed_stay_what_they_were() {
             sum = (sum ^ u64::from(byte)).wrapping_mul(0x0100_0000_01b3);
         }
     }
-    assert_eq!(sum, 0x5465_68b1_da5a_ffe0);
+    assert_eq!(sum, 0x61da_5123_b7bf_8c24);
 }
 
 #[test]
@@ -118,7 +119,7 @@ fn bad_fields(bytes: &[u8]) -> Vec<(usize, usize, bool)> {
 fn bad_walls_have_one_bad_field_or_more() {
     let (mut alone, mut heights, mut walls) = (0, 0, 0);
     let mut pairs = BTreeSet::new();
-    for index in 0..200 {
+    for index in 0..240 {
         let bad = bad_fields(&sample(SEED, kind("refused-wall"), index).bytes);
         match bad[..] {
             [_] => alone += 1,
@@ -277,6 +278,131 @@ fn a_hundredth_of_steel_decides_in_every_way() {
     }
 }
 
+/// The words of each turn of `heel`, and those that it must not have.
+const HEEL_TURNS: [(&[&str], &[&str]); 33] = [
+    (&["under-heel-whole"], BELOW_0),
+    (&["under-heel-toe-block-ends-before-middle"], BELOW_0),
+    (&TOE_AROUND_MIDDLE, BELOW_0),
+    (&["under-heel-toe-block-ends-before-back"], BELOW_0),
+    (&TOE_AROUND_BACK, BELOW_0),
+    (&["under-heel-toe-block-ends-past-back"], BELOW_0),
+    (&AROUND_END, BELOW_0),
+    (&["under-heel-heel-block-starts-before-middle"], BELOW_0),
+    (&HEEL_AROUND_MIDDLE, &["heel-shear-below-0"]),
+    (
+        &["under-heel-heel-block-starts-before-back"],
+        &["heel-shear-below-0"],
+    ),
+    (&HEEL_AROUND_BACK, &[]),
+    (&["under-heel-heel-block-starts-past-back"], &[]),
+    (&["heel-unchecked-no-heel", "factored-whole"], &[]),
+    (&["heel-unchecked-no-block"], &[]),
+    (&["heel-shear-below-0"], &["heel-moment-below-0"]),
+    (&["heel-moment-below-0"], &[]),
+    (
+        &[
+            "heel-steel-fails-alone",
+            "bit-256-set",
+            "bit-32-clear",
+            "bit-64-clear",
+        ],
+        &["heel-shear-fails"],
+    ),
+    (
+        &["heel-shear-fails-alone", "bit-128-set", "bit-256-clear"],
+        &["toe-shear-fails", "stem-shear-fails"],
+    ),
+    (&["heel-steel-needed", "heel-steel-even"], &[]),
+    (&["heel-steel-needed", "heel-steel-hundredth-short"], &[]),
+    (&["heel-steel-needed", "heel-steel-fails-in-mm2"], &[]),
+    (&["heel-steel-least", "heel-least-even"], &[]),
+    (&["heel-steel-least", "heel-steel-hundredth-short"], &[]),
+    (&["heel-shear-even", "heel-shear-fails"], &[]),
+    (&["heel-shear-fcu-fails"], &[]),
+    (&["heel-compression-steel"], &[]),
+    (&["heel-fill-both", "heel-surcharge", "odd-stem"], &[]),
+    (
+        &["heel-fill-saturated", "heel-surcharge-0", "even-stem"],
+        &[],
+    ),
+    (&["heel-fill-moist", "heel-surcharge-0", "odd-stem"], &[]),
+    (&["heel-loaded"], BELOW_0),
+    (&["heel-sum-by-parts", "heel-surcharge"], &[]),
+    (&["heel-bearing-not-whole", "under-heel-whole"], &[]),
+    (&["heel-peak-shows", "factored-toe"], &[]),
+];
+
+const BELOW_0: &[&str] = &["heel-shear-below-0", "heel-moment-below-0"];
+const TOE_AROUND_MIDDLE: [&str; 3] = [
+    "under-heel-toe-block-ends-before-middle",
+    "under-heel-toe-block-ends-at-middle",
+    "under-heel-toe-block-ends-before-back",
+];
+const TOE_AROUND_BACK: [&str; 3] = [
+    "under-heel-toe-block-ends-before-back",
+    "under-heel-toe-block-ends-at-back",
+    "under-heel-toe-block-ends-past-back",
+];
+const AROUND_END: [&str; 3] = [
+    "under-heel-toe-block-ends-past-back",
+    "under-heel-whole-to-its-end",
+    "under-heel-whole",
+];
+const HEEL_AROUND_MIDDLE: [&str; 3] = [
+    "under-heel-heel-block-starts-before-middle",
+    "under-heel-heel-block-starts-at-middle",
+    "under-heel-heel-block-starts-before-back",
+];
+const HEEL_AROUND_BACK: [&str; 3] = [
+    "under-heel-heel-block-starts-before-back",
+    "under-heel-heel-block-starts-at-back",
+    "under-heel-heel-block-starts-past-back",
+];
+
+/// Where the tip is at a point, three walls are alike and a step of M6 apart.
+#[test]
+fn every_block_is_under_every_part_of_the_heel() {
+    for index in 0..3 * HEEL_TURNS.len() {
+        let (wanted, unwanted) = HEEL_TURNS[index % HEEL_TURNS.len()];
+        let bytes = sample(SEED, kind("heel"), index).bytes;
+        let words = of(&bytes).1;
+        let met = wanted.iter().all(|word| words.contains(word));
+        let clear = unwanted.iter().all(|word| !words.contains(word));
+        assert!(met && clear, "heel of index {index}: {words:?}");
+        let job = accept(&bytes).unwrap();
+        let at_point = matches!(index % HEEL_TURNS.len(), 2 | 4 | 6 | 8 | 10);
+        assert_eq!(job.walls.len(), if at_point { 3 } else { 1 });
+        let worked = work_job(&job);
+        for (walls, worked) in job.walls.windows(2).zip(worked.windows(2)) {
+            assert_eq!(walls[0], walls[1]);
+            let (before, past) = (worked[0].factored, worked[1].factored);
+            assert_eq!((past.r, past.m6), (before.r, before.m6 + 12));
+        }
+    }
+}
+
+/// Where a heel triangle starts at the back face or past it, all of it stands under the
+/// heel, and bears more than weighs there and farther back: V and M count as 0.
+#[test]
+fn a_heel_triangle_behind_the_stem_leaves_nothing() {
+    let mut seen = 0;
+    for (name, job) in common::accepted_jobs(70) {
+        for (wall, worked) in job.walls.iter().zip(work_job(&job)) {
+            let (Some(heel), Some(bearing)) = (worked.heel, worked.factored_bearing.given()) else {
+                continue;
+            };
+            let reach = Reach::of(wall, bearing);
+            let behind = matches!(reach, Some(Reach::AtBack | Reach::PastBack));
+            if bearing.block.kind == HeelTriangle && behind {
+                let Effects { shear, moment } = heel.effects;
+                assert_eq!((shear, moment), (0, 0), "{name}");
+                seen += 1;
+            }
+        }
+    }
+    assert!(seen > 10, "{seen}");
+}
+
 #[test]
 fn the_line_starts_with_the_answer() {
     assert_eq!(line(&[]), "refused-1\n");
@@ -295,7 +421,7 @@ fn mangled_and_raw_bytes_are_answered() {
             for line in printed.lines() {
                 let words = line.split(' ').count();
                 let refused = line.starts_with("refused ");
-                assert_eq!(words, if refused { 3 } else { 16 });
+                assert_eq!(words, if refused { 3 } else { 19 });
                 accepted += usize::from(!refused);
             }
         }

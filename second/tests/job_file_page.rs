@@ -1,5 +1,6 @@
 //! docs/JOB-FILE.md held to this program: its tables by what is answered at the
-//! ends of every range and past them, and its small job byte for byte.
+//! ends of every range and past them, its small job byte for byte with its sheet, and
+//! the numbers and failures of a line.
 
 mod common;
 
@@ -7,12 +8,15 @@ use common::CASE_A;
 use second::generator::draft::{Draft, ACROSS, DOWN};
 use second::job_file::{field, RawLoad, RawWall};
 use second::sheet;
+use second::sheet_line::{CHECKS, LINE_NUMBERS};
 use std::path::{Path, PathBuf};
 
 const FIELDS: &str = "| no. | field | unit | range |";
 const LOADS: &str = "| no. | number of a load | unit | range |";
 const HEADER: &str = "| bytes | number of the header | range |";
 const WORKED: &str = "| from byte | bytes | number |";
+const LINE: &str = "| number of the line | what it is | unit |";
+const FAILURES: &str = "| bit | printed | check that fails |";
 
 fn repository() -> PathBuf {
     Path::new(env!("CARGO_MANIFEST_DIR")).join("..")
@@ -62,9 +66,9 @@ fn numbered(count: usize) -> Vec<String> {
     (1..=count).map(|number| number.to_string()).collect()
 }
 
-/// The ranges of the 31 fields.
+/// The ranges of the 35 fields.
 fn field_ranges(page: &str) -> Result<Vec<String>, String> {
-    column(page, FIELDS, &numbered(31), 3)
+    column(page, FIELDS, &numbered(35), 3)
 }
 
 /// The ranges of a load's five numbers.
@@ -212,8 +216,8 @@ fn a_missing_row_is_found() {
             rows += 1;
         }
     }
-    // The small job is 156 bytes: six numbers of two, and 36 of four.
-    assert_eq!(rows, 4 * 2 + 31 + 5 + 6 + 42);
+    // The small job is 172 bytes: six numbers of two, and 40 of four.
+    assert_eq!(rows, 4 * 2 + 35 + 5 + 6 + 46);
 }
 
 #[test]
@@ -308,7 +312,7 @@ fn the_header_has_the_ranges_that_are_answered() {
     }
 }
 
-/// "12 + 124 x walls" and "12 + 124 x walls + 20 x loads", in numbers.
+/// "12 + 140 x walls" and "12 + 140 x walls + 20 x loads", in numbers.
 fn sum(range: &str, walls: u32, loads: u32) -> u32 {
     let part = |part: &str| match part.split_once(" x ") {
         None => part.parse().unwrap(),
@@ -322,7 +326,7 @@ fn sum(range: &str, walls: u32, loads: u32) -> u32 {
 #[test]
 fn offset_and_length_go_by_the_pages_sums() {
     let ranges = header_ranges(&page()).unwrap();
-    let sums = ["12 + 124 x walls", "12 + 124 x walls + 20 x loads"];
+    let sums = ["12 + 140 x walls", "12 + 140 x walls + 20 x loads"];
     assert_eq!(ranges[4..], sums);
     for (walls, loads) in [(1, 0), (1, 1), (2, 0), (3, 8), (64, 512)] {
         for (place, number) in [(4, 4), (5, 10)] {
@@ -334,6 +338,25 @@ fn offset_and_length_go_by_the_pages_sums() {
             }
         }
     }
+}
+
+/// The line's numbers one after another, each check with its bit, and the sheet of the
+/// small job.
+#[test]
+fn the_page_shows_the_line_and_its_failures() {
+    let page = page();
+    let rows = table(&page, LINE).unwrap();
+    let numbers: Vec<&str> = rows.iter().flat_map(|row| row[0].split(", ")).collect();
+    assert_eq!(numbers, numbered(LINE_NUMBERS));
+    let printed: Vec<[String; 2]> = CHECKS
+        .iter()
+        .map(|bit| [bit.to_string(), format!("`{bit:03x}`")])
+        .collect();
+    let rows = table(&page, FAILURES).unwrap();
+    assert!(rows.iter().map(|row| &row[..2]).eq(&printed));
+    let job = std::fs::read(repository().join("jobs/document-004-lower.job")).unwrap();
+    assert!(page.contains(&format!("    {}", sheet(&job))));
+    assert!(page.contains(&format!("of {LINE_NUMBERS} numbers")));
 }
 
 /// The page's own example: water one above the height of wall 3.

@@ -7,7 +7,7 @@ use common::{case_a_bytes, case_a_draft, CASE_A, CASE_A_LINE};
 use second::answers::{Refusal, BUFFER_TOO_SHORT};
 use second::office::{Office, Packed, Second, TEXT_ROOM};
 
-const CASE_A_NUMBERS: [i64; 16] = [
+const CASE_A_NUMBERS: [i64; 19] = [
     1,
     0,
     134_160,
@@ -24,15 +24,18 @@ const CASE_A_NUMBERS: [i64; 16] = [
     80_700,
     92_700_000,
     89_165,
+    75_042,
+    88_187_024,
+    84_824,
 ];
 
 #[test]
 fn numbers_stand_at_the_start_and_the_rest_stays() {
     for more in [0, 1, 20] {
-        let mut out = vec![-7; 16 + more];
+        let mut out = vec![-7; 19 + more];
         assert_eq!(second::calculate(&case_a_bytes(), &mut out), Ok(()));
-        assert_eq!(out[..16], CASE_A_NUMBERS);
-        assert!(out[16..].iter().all(|number| *number == -7));
+        assert_eq!(out[..19], CASE_A_NUMBERS);
+        assert!(out[19..].iter().all(|number| *number == -7));
     }
 }
 
@@ -40,7 +43,7 @@ fn numbers_stand_at_the_start_and_the_rest_stays() {
 fn a_buffer_too_short_is_refused_last_and_left_alone() {
     let mut draft = case_a_draft();
     draft.walls.push(draft.walls[0]);
-    for room in [0, 15, 16, 31] {
+    for room in [0, 16, 18, 19, 32, 37] {
         let mut out = vec![-7; room];
         let refused = second::calculate(&draft.bytes(), &mut out);
         assert_eq!(refused, Err(BUFFER_TOO_SHORT));
@@ -51,7 +54,7 @@ fn a_buffer_too_short_is_refused_last_and_left_alone() {
         number: 5,
         place: 201,
     });
-    for room in [0, 31, 32] {
+    for room in [0, 37, 38] {
         let mut out = vec![-7; room];
         assert_eq!(second::calculate(&draft.bytes(), &mut out), refused);
         assert!(out.iter().all(|number| *number == -7));
@@ -103,22 +106,24 @@ fn a_drawing_of_nothing_has_three_figures() {
     assert_eq!(out[3..], [-0.5; 3]);
 }
 
-/// A check is asked for by its bit, and no number but these eight is one.
+/// A check is asked for by its bit, and no number but these nine is one.
 #[test]
 fn checks_are_asked_for_by_their_bits() {
-    let bits = [1, 2, 4, 8, 16, 32, 64, 128];
-    let set = |failures: u8| -> Vec<u8> {
-        let asked = 0..=u8::MAX;
+    let bits = [1, 2, 4, 8, 16, 32, 64, 128, 256];
+    let set = |failures: u16| -> Vec<u16> {
+        let asked = 0..=u16::MAX;
         asked
             .filter(|check| Second.has_failed(failures, *check))
             .collect()
     };
-    assert_eq!(set(u8::MAX), bits);
+    assert_eq!(set(u16::MAX), bits);
     assert_eq!(set(0), []);
-    assert_eq!(set(0b1010_0110), [2, 4, 32, 128]);
+    assert_eq!(set(0xff), bits[..8]);
+    assert_eq!(set(0xfe00), []);
+    assert_eq!(set(0b1_1010_0110), [2, 4, 32, 128, 256]);
     for bit in bits {
         assert_eq!(set(bit), [bit]);
-        assert!(!set(u8::MAX - bit).contains(&bit));
+        assert!(!set(u16::MAX - bit).contains(&bit));
     }
 }
 
@@ -130,15 +135,15 @@ fn a_written_file_says_how_many_bytes_it_has() {
         let answer = Second.write(walls, loads, &mut out);
         (answer, out)
     };
-    let (answer, out) = write(&CASE_A, &[], 140);
-    assert_eq!(answer, Packed(136 << 48));
-    assert_eq!((answer.bytes(), answer.number()), (136, 0));
-    assert_eq!(out[..136], case_a_bytes());
-    assert_eq!(out[136..], [0xff; 4]);
+    let (answer, out) = write(&CASE_A, &[], 156);
+    assert_eq!(answer, Packed(152 << 48));
+    assert_eq!((answer.bytes(), answer.number()), (152, 0));
+    assert_eq!(out[..152], case_a_bytes());
+    assert_eq!(out[152..], [0xff; 4]);
     let refusals = [
-        (&CASE_A[..30], &[][..], 3 << 32),
-        (&[0; 31], &[4], 3 << 32),
-        (&[0; 31], &[0; 5], 5 << 32 | 102),
+        (&CASE_A[..34], &[][..], 3 << 32),
+        (&[0; 35], &[4], 3 << 32),
+        (&[0; 35], &[0; 5], 5 << 32 | 102),
         (&CASE_A, &[0; 5], 6 << 32 | 1),
         (&CASE_A, &[1, 0, 0, 0, 0].repeat(9), 7 << 32 | 9),
     ];
@@ -150,7 +155,7 @@ fn a_written_file_says_how_many_bytes_it_has() {
             );
         }
     }
-    assert_eq!(write(&CASE_A, &[], 135), (Packed(9 << 32), vec![0xff; 135]));
+    assert_eq!(write(&CASE_A, &[], 151), (Packed(9 << 32), vec![0xff; 151]));
 }
 
 #[test]
@@ -162,18 +167,20 @@ fn records_are_taken_apart_into_two_buffers() {
         let answer = Second.records(job, &mut walls, &mut loads);
         (answer, walls, loads)
     };
-    let (answer, walls, loads) = apart(&draft.bytes(), 32, 6);
+    let (answer, walls, loads) = apart(&draft.bytes(), 36, 6);
     assert_eq!(answer, Packed::WORKED);
-    assert_eq!((&walls[..31], walls[31]), (&CASE_A[..], u32::MAX));
+    assert_eq!((&walls[..35], walls[35]), (&CASE_A[..], u32::MAX));
     assert_eq!(loads, [1, 0, 2300, 1, 2, u32::MAX]);
-    for (walls, loads) in [(30, 5), (31, 4), (0, 0)] {
+    for (walls, loads) in [(34, 5), (35, 4), (0, 0)] {
         let untouched = (vec![u32::MAX; walls], vec![u32::MAX; loads]);
         let (answer, walls, loads) = apart(&draft.bytes(), walls, loads);
         assert_eq!((answer, (walls, loads)), (Packed(8 << 32), untouched));
     }
     draft.loads[0][2] = 2301;
     assert_eq!(apart(&draft.bytes(), 0, 0).0, Packed(6 << 32 | 1));
+    draft.walls[0][34] = 0;
+    assert_eq!(apart(&draft.bytes(), 0, 0).0, Packed(5 << 32 | 135));
     draft.walls[0][30] = 0;
     assert_eq!(apart(&draft.bytes(), 0, 0).0, Packed(5 << 32 | 131));
-    assert_eq!(apart(&draft.bytes()[..155], 0, 0).0, Packed(10 << 32));
+    assert_eq!(apart(&draft.bytes()[..171], 0, 0).0, Packed(10 << 32));
 }

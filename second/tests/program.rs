@@ -35,7 +35,7 @@ fn the_sheet_of_case_a_and_of_two_walls() {
     draft.walls.push(draft.walls[0]);
     draft.loads.push([2, 1, 0, 1, 0]);
     let second_line = CASE_A_LINE
-        .replacen("1 00", "2 00", 1)
+        .replacen("1 000", "2 000", 1)
         .replacen(" 43627 ", " 43628 ", 1);
     let (printed, _) = run(&[], &draft.bytes());
     assert_eq!(printed, format!("{CASE_A_LINE}{second_line}"));
@@ -63,7 +63,7 @@ fn an_input_past_all_bounds_is_refused() {
     long.resize(3_000_000, 1);
     assert_eq!(run(&[], &long).0, "refused 10 0\n");
     // Right when its length is cut to 16 bits.
-    long.resize(65_536 + 136, 1);
+    long.resize(65_536 + 152, 1);
     assert_eq!(run(&[], &long).0, "refused 10 0\n");
 }
 

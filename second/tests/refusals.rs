@@ -54,8 +54,8 @@ fn two_before_three_before_four() {
         assert_eq!(with(&[(place, value)]), Some((3, 0)));
         assert_eq!(with(&[(place, value), (2, 13)]), Some((3, 0)));
     }
-    // The header of three walls is 1 3 12 0 384 384.
-    for (place, due) in [(2, 12), (4, 384)] {
+    // The header of three walls is 1 3 12 0 432 432.
+    for (place, due) in [(2, 12), (4, 432)] {
         for wrong in [due + 1, due - 1, 0, 65_535] {
             assert_eq!(with(&[(place, wrong)]), Some((4, 0)));
         }
@@ -68,15 +68,15 @@ fn two_before_three_before_four() {
 #[test]
 fn four_before_ten() {
     let with = with_header;
-    for wrong in [385, 383, 0, 12, 65_535] {
+    for wrong in [433, 431, 0, 12, 65_535] {
         assert_eq!(with(&[(5, wrong)]), Some((10, 0)));
-        for (place, offset) in [(2, 13), (2, 0), (4, 383), (4, 404)] {
+        for (place, offset) in [(2, 13), (2, 0), (4, 431), (4, 452)] {
             assert_eq!(with(&[(5, wrong), (place, offset)]), Some((4, 0)));
         }
     }
     // A load more: both offsets are right, and the length is not.
     assert_eq!(with(&[(3, 1)]), Some((10, 0)));
-    assert_eq!(with(&[(3, 1), (5, 404)]), Some((10, 0)));
+    assert_eq!(with(&[(3, 1), (5, 452)]), Some((10, 0)));
     assert_eq!(with(&[(3, 513), (5, 0)]), Some((3, 0)));
     assert_eq!(with(&[(0, 2), (5, 0)]), Some((2, 0)));
 }
@@ -92,22 +92,22 @@ fn ten_for_the_input_itself() {
         bytes.resize(input, 0);
         answer(&bytes)
     };
-    assert_eq!(lengths(404, 404, 384), None);
+    assert_eq!(lengths(452, 452, 432), None);
     let wrong = [
-        (404, 403),
-        (404, 405),
-        (404, 12),
-        (404, 404 + 65_536),
-        (403, 403),
-        (424, 424),
+        (452, 451),
+        (452, 453),
+        (452, 12),
+        (452, 452 + 65_536),
+        (451, 451),
+        (472, 472),
         (12, 12),
         (65_535, 65_535),
-        (403, 404),
-        (405, 403),
+        (451, 452),
+        (453, 451),
     ];
     for (stated, input) in wrong {
-        assert_eq!(lengths(stated, input, 384), Some((10, 0)));
-        assert_eq!(lengths(stated, input, 385), Some((4, 0)));
+        assert_eq!(lengths(stated, input, 432), Some((10, 0)));
+        assert_eq!(lengths(stated, input, 433), Some((4, 0)));
     }
 }
 
@@ -172,7 +172,11 @@ fn five_each_field_at_and_past_its_ends() {
     }
     for bar in 0..50 {
         let made = [8, 10, 12, 16, 20, 25, 32, 40].contains(&bar);
-        for (place, refused) in [(field::TOE_BAR, (5, 225)), (field::STEM_BAR, (5, 228))] {
+        for (place, refused) in [
+            (field::TOE_BAR, (5, 225)),
+            (field::STEM_BAR, (5, 228)),
+            (field::HEEL_BAR, (5, 233)),
+        ] {
             let due = if made { IN_RANGE } else { Some(refused) };
             assert_eq!(with_fields(1, &[(place, bar)]), due);
         }
@@ -184,13 +188,17 @@ fn five_for_the_first_bad_field_of_the_first_bad_wall() {
     let mut draft = three(&[]);
     draft.walls[2][field::KA] = 0;
     assert_eq!(answer(&draft.bytes()), Some((5, 315)));
-    draft.walls[2][field::STEM_SHEAR_STRESS] = 0;
+    draft.walls[2][field::HEEL_SHEAR_STRESS] = 0;
     assert_eq!(answer(&draft.bytes()), Some((5, 315)));
+    draft.walls[1][field::HEEL_SHEAR_STRESS] = 5001;
+    assert_eq!(answer(&draft.bytes()), Some((5, 235)));
+    draft.walls[1][field::HEEL_COVER] = 19;
+    assert_eq!(answer(&draft.bytes()), Some((5, 232)));
     draft.walls[1][field::STEM_SHEAR_STRESS] = 5001;
     assert_eq!(answer(&draft.bytes()), Some((5, 231)));
     draft.walls[1][field::KIND] = 2;
     assert_eq!(answer(&draft.bytes()), Some((5, 201)));
-    draft.walls[0] = [u32::MAX; 31];
+    draft.walls[0] = [u32::MAX; 35];
     assert_eq!(answer(&draft.bytes()), Some((5, 101)));
 }
 
@@ -198,7 +206,7 @@ fn five_for_the_first_bad_field_of_the_first_bad_wall() {
 #[test]
 fn five_for_the_first_of_two_bad_fields() {
     for (first, (_, high)) in ENDS.into_iter().enumerate() {
-        for later in first + 1..31 {
+        for later in first + 1..35 {
             let (one, other) = ((first, high + 1), (later, u32::MAX));
             let refused = Some((5, 201 + first as u64));
             assert_eq!(with_fields(1, &[one, other]), refused);
@@ -243,9 +251,9 @@ fn a_wall_alone_is_refused_as_wall_one() {
         assert_eq!(place(64, &raw), Err(format!("refused 5 64{field:02}")));
     }
     let mut walls = vec![CASE_A; 64];
-    walls[63][field::STEM_SHEAR_STRESS] = 0;
+    walls[63][field::HEEL_SHEAR_STRESS] = 0;
     let loads = Vec::new();
-    assert_eq!(answer(&Draft { walls, loads }.bytes()), Some((5, 6431)));
+    assert_eq!(answer(&Draft { walls, loads }.bytes()), Some((5, 6435)));
 }
 
 #[test]

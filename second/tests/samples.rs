@@ -74,9 +74,9 @@ fn case_a_is_document_01s() {
 #[test]
 fn every_check_fails_on_one_line_or_the_other() {
     let job = accept(&kept("every-check.job")).unwrap();
-    let failures: Vec<u8> = work_job(&job).iter().map(|wall| wall.failures).collect();
-    assert_eq!(failures, [0xe7, 0xdb]);
-    assert_eq!(failures[0] | failures[1], 0xff);
+    let failures: Vec<u16> = work_job(&job).iter().map(|wall| wall.failures).collect();
+    assert_eq!(failures, [0x1e7, 0x0db]);
+    assert_eq!(failures[0] | failures[1], 0x1ff);
 }
 
 #[test]
@@ -133,9 +133,9 @@ fn lines_of(words: &str) -> (usize, usize) {
 }
 
 /// What the page says of the full job's failures, line by line: the last cell of a
-/// row, as in "01 on 57; 41 on 58-60", for the lines in its first.
+/// row, as in "001 on 57; 041 on 58-60", for the lines in its first.
 fn failures_shown(page: &str) -> Vec<String> {
-    let mut shown = vec!["00".to_string(); 64];
+    let mut shown = vec!["000".to_string(); 64];
     let mut rows = 0;
     for row in page.lines().filter(|row| row.starts_with("| ")) {
         let cells: Vec<&str> = row.trim_matches('|').split('|').map(str::trim).collect();
@@ -145,11 +145,11 @@ fn failures_shown(page: &str) -> Vec<String> {
         }
         rows += 1;
         let each = failures.split("; ").filter(|words| *words != "none");
-        for (byte, on) in each.map(|words| words.split_once(" on ").unwrap()) {
+        for (bits, on) in each.map(|words| words.split_once(" on ").unwrap()) {
             for (first, last) in on.split(", ").map(lines_of) {
                 let row = lines_of(lines);
                 assert!(row.0 <= first && last <= row.1, "{failures} in {lines}");
-                shown[first - 1..last].fill(byte.to_string());
+                shown[first - 1..last].fill(bits.to_string());
             }
         }
     }
@@ -165,7 +165,7 @@ fn the_page_shows_the_full_jobs_failures() {
     let worked = work_job(&job);
     let failures: Vec<String> = worked
         .iter()
-        .map(|w| format!("{:02x}", w.failures))
+        .map(|w| format!("{:03x}", w.failures))
         .collect();
     assert_eq!(failures_shown(of_full), failures);
 }

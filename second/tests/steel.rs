@@ -160,7 +160,7 @@ fn a_sheet_of_mesh_in_the_toe_passes_now() {
     assert_eq!((toe.required, toe.provided), (39_260, 39_265));
     assert!(toe.failed_in_mm2());
     assert_eq!(worked.failures & TOE_STEEL, 0);
-    let line = "1 00 134270 43673 0 767337716 88459 28298 173375 0 71778 30879849 39260 80700 92700000 89165\n";
+    let line = "1 000 134270 43673 0 767337716 88459 28298 173375 0 71778 30879849 39260 80700 92700000 89165 75160 88339259 84266\n";
     assert_eq!(second::sheet(&draft.bytes()), line);
 }
 
@@ -178,7 +178,7 @@ fn bars_in_the_stem_pass_now() {
     assert_eq!((stem.required, stem.provided), (89_331, 89_360));
     assert!(stem.failed_in_mm2());
     assert_eq!(worked.failures & STEM_STEEL, 0);
-    let line = "1 00 134160 43668 0 766290300 88466 28196 173312 0 71779 30880455 39000 80758 92872200 89331\n";
+    let line = "1 000 134160 43668 0 766290300 88466 28196 173312 0 71779 30880455 39000 80758 92872200 89331 75161 88336722 84968\n";
     assert_eq!(second::sheet(&draft.bytes()), line);
 }
 

@@ -39,7 +39,7 @@ fn every_row_prints_its_line() {
         assert_eq!(second::sheet(&draft.bytes()), format!("{line}\n"));
         count += 1;
     }
-    assert!(count > 260, "{count}");
+    assert!(count > 320, "{count}");
 }
 
 /// The edges that the rows were chosen for.
@@ -92,6 +92,40 @@ const EDGES: &[&str] = &[
     "factored-heel",
     "service-none-peak",
     "factored-none-peak",
+    "heel-unchecked-no-heel",
+    "heel-unchecked-no-block",
+    "heel-shear-below-0",
+    "heel-moment-below-0",
+    "heel-compression-steel",
+    "heel-steel-least",
+    "heel-steel-needed",
+    "heel-steel-fails-alone",
+    "heel-steel-even",
+    "heel-steel-hundredth-short",
+    "heel-least-even",
+    "heel-shear-fails-alone",
+    "heel-shear-even",
+    "heel-fill-moist",
+    "heel-fill-saturated",
+    "heel-fill-both",
+    "heel-surcharge-0",
+    "heel-loaded",
+    "under-heel-whole",
+    "under-heel-whole-to-its-end",
+    "under-heel-toe-block-ends-before-middle",
+    "under-heel-toe-block-ends-at-middle",
+    "under-heel-toe-block-ends-before-back",
+    "under-heel-toe-block-ends-at-back",
+    "under-heel-toe-block-ends-past-back",
+    "under-heel-heel-block-starts-before-middle",
+    "under-heel-heel-block-starts-at-middle",
+    "under-heel-heel-block-starts-before-back",
+    "under-heel-heel-block-starts-at-back",
+    "under-heel-heel-block-starts-past-back",
+    "heel-sum-by-parts",
+    "heel-sum-not-whole",
+    "heel-bearing-not-whole",
+    "heel-peak-shows",
 ];
 
 #[test]

@@ -1,4 +1,4 @@
-// Document 01, "The sheet line": the byte of a wall's failures. A check's bit is set by a shift and an or.
+// Document 01, "The sheet line": a wall's failures, in two bytes. A check's bit is set by a shift and an or.
 use record::ALLOWABLE_BEARING;
 use record::Wall;
 use rules::Block;
@@ -21,7 +21,7 @@ const PER_KILO: u64 = 1000;
 
 // How far to the left a check's bit stands.
 fn shift_of(check: Check) -> u32
-    ensures { λ r. ⌜ (2 ^ r ≡ bit check) × (r < 8) ⌝ }
+    ensures { λ r. ⌜ (2 ^ r ≡ bit check) × (r < 16) ⌝ }
 {
     match check {
         Check::Slides => 0,
@@ -32,16 +32,17 @@ fn shift_of(check: Check) -> u32
         Check::ToeSteel => 5,
         Check::StemSteel => 6,
         Check::Sheared => 7,
+        Check::HeelSteel => 8,
     }
 }
 
 // The failures with one check more, whose bit stands to the left of all that are set.
-fn with_check(failures: u8, check: Check, fails: bool) -> u8
+fn with_check(failures: u16, check: Check, fails: bool) -> u16
     requires { ⌜ failures < bit check ⌝ }
     ensures { λ r. ⌜ (r ≡ failures + cond fails (bit check) 0) × (r < 2 * bit check) ⌝ }
 {
     if fails {
-        failures | (1u8 << shift_of(check))
+        failures | (1u16 << shift_of(check))
     } else {
         failures
     }
@@ -74,22 +75,22 @@ fn is_over_allowable(wall: Wall, toe: u64, heel: u64) -> bool
     PER_KILO * record::field(wall, ALLOWABLE_BEARING) < whole::greater(toe, heel)
 }
 
-// The toe fails in shear, or the stem does.
-fn is_sheared(toe: Member, stem: Member) -> bool
-    ensures { λ r. ⌜ r ≡ toe .sheared || stem .sheared ⌝ }
+// The toe fails in shear, or the stem does, or the heel.
+fn is_sheared(toe: Member, stem: Member, heel: Member) -> bool
+    ensures { λ r. ⌜ r ≡ toe .sheared || stem .sheared || heel .sheared ⌝ }
 {
-    toe.sheared | stem.sheared
+    toe.sheared | stem.sheared | heel.sheared
 }
 
 // Every check of a wall that is worked, each set to the left of those before it.
-pub fn failures_of(wall: Wall, worked: WorkedWall) -> u8
+pub fn failures_of(wall: Wall, worked: WorkedWall) -> u16
     ensures { λ r. ⌜ r ≡ failuresBy wall worked ⌝ }
 {
     let turned = overturns(worked.totals);
     let pressed = is_over_allowable(wall, worked.service.toe, worked.service.heel);
     let stands = is_given(worked.service.block);
     let stands_factored = is_given(worked.factored.block);
-    let sheared = is_sheared(worked.toe, worked.stem);
+    let sheared = is_sheared(worked.toe, worked.stem, worked.heel);
     let failures = with_check(0, Check::Slides, worked.sliding.slides);
     let failures = with_check(failures, Check::Overturns, turned);
     let failures = with_check(failures, Check::OverAllowable, pressed);
@@ -97,11 +98,12 @@ pub fn failures_of(wall: Wall, worked: WorkedWall) -> u8
     let failures = with_check(failures, Check::NoFactoredBlock, !stands_factored);
     let failures = with_check(failures, Check::ToeSteel, worked.toe.steel.fails);
     let failures = with_check(failures, Check::StemSteel, worked.stem.steel.fails);
-    with_check(failures, Check::Sheared, sheared)
+    let failures = with_check(failures, Check::Sheared, sheared);
+    with_check(failures, Check::HeelSteel, worked.heel.steel.fails)
 }
 
-// Does a byte of failures, as a line has it, have a check's bit?
-pub fn has_failed(failures: u8, check: Check) -> bool
+// Do the two bytes of failures, as a line has them, have a check's bit?
+pub fn has_failed(failures: u16, check: Check) -> bool
     ensures { λ r. ⌜ r ≡ isSet failures check ⌝ }
 {
     (failures >> shift_of(check)) & 1 == 1

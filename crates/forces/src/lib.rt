@@ -1,5 +1,5 @@
 // Document 01, "Forces" and "Toe and stem": the component tables of a wall under its loads, and all that they give: the totals in service and factored,
-// what holds the wall against sliding, and what acts on its stem.
+// what holds the wall against sliding, what acts on its stem, and what fills its heel.
 mod pushes;
 mod rows;
 mod sliding;
@@ -52,6 +52,7 @@ fn no_forces(refusal: Answer) -> Forces
             shear: 0,
             moment: 0,
         },
+        fill: 0,
     }
 }
 
@@ -68,12 +69,14 @@ fn worked(wall: Wall, loads: Loads) -> Forces
     let resting = sums::column_sum(active, sorts, RESTS, VERTICAL);
     let sliding = sliding::held(wall, service.R - resting, service.H);
     let stem = stem::stem_action(wall, loads, sorts);
+    let fill = weights::fill_on_heel(wall);
     Forces {
         answer: Answer::Worked,
         service: service,
         factored: factored,
         sliding: sliding,
         stem: stem,
+        fill: fill,
     }
 }
 

@@ -18,6 +18,12 @@ ghost use lib.Dec.{T};
 ghost use Rattle.whole.specs.Rounding.{roundedNearest};
 ghost use Rattle.rules.specs.JobFile.{wallFits};
 ghost use Rattle.rules.specs.Forces.{perVolume, saturatedHeight, stemWeight, baseWeight, saturatedWeight, moistWeight, surchargeWeight};
+ghost use Rattle.rules.specs.ToeAndStem.{fillOnHeel};
+
+// 1.4 and 1.6, in tenths.
+const FILL_FACTOR: u64 = 14;
+
+const SURCHARGE_FACTOR: u64 = 16;
 
 // The weight of what has two sides in mm and a density, all three small enough to multiply.
 fn slab_weight(a: u64, b: u64, density: u64) -> u64
@@ -90,4 +96,13 @@ pub fn surcharge_weight(wall: Wall) -> u64
         record::field(wall, SURCHARGE) * record::field(wall, HEEL_LENGTH),
         PER_AREA,
     )
+}
+
+// What stands on the heel but for its own slab: fill and surcharge, factored, in tenths of a N.
+pub fn fill_on_heel(wall: Wall) -> u64
+    requires { ⌜ T (wallFits wall) ⌝ }
+    ensures { λ r. ⌜ r ≡ fillOnHeel wall ⌝ }
+{
+    let fill = saturated_weight(wall) + moist_weight(wall);
+    FILL_FACTOR * fill + SURCHARGE_FACTOR * surcharge_weight(wall)
 }

@@ -76,7 +76,7 @@ pub record TakesApartPacked (file wallsBefore loadsBefore : List ℕ) (r : ℕ) 
 
 -- ---- a check by its bit
 
--- does the byte have it? No check has the bit where the list is at its end
+-- is it set among some failures? No check has the bit where the list is at its end
 unfoldable pub hasFailed : List Check → ℕ → ℕ → Bool
-hasFailed [] byte n = false
-hasFailed (check ∷ rest) byte n = cond (eqb n (bit check)) (isSet byte check) (hasFailed rest byte n)
+hasFailed [] found n = false
+hasFailed (check ∷ rest) found n = cond (eqb n (bit check)) (isSet found check) (hasFailed rest found n)

@@ -77,7 +77,7 @@ fn put_figures(drawn: Drawn, out: &mut [f64])
     put_shape(shape, &mut out[3..]);
 }
 
-// The sheet of a job in numbers: sixteen for each wall, and whatever stands behind them as it was; or a refusal, and the buffer as it was.
+// The sheet of a job in numbers: nineteen for each wall, and whatever stands behind them as it was; or a refusal, and the buffer as it was.
 #[no_mangle]
 pub extern "C" fn office_calculate(job: &[u8], out: &mut [i64]) -> u64
     ensures { λ r. ⌜ CalculatesPacked (now (job .entry)) (now (out .entry)) r (now (out .exit)) ⌝ }
@@ -138,7 +138,7 @@ pub extern "C" fn office_records(job: &[u8], walls: &mut [u32], loads: &mut [u32
 
 // Is the bit of a check set in the failures of a line? The check is named by its bit; of a number that is no check's bit the answer is false.
 #[no_mangle]
-pub extern "C" fn office_has_failed(failures: u8, check: u8) -> bool
+pub extern "C" fn office_has_failed(failures: u16, check: u16) -> bool
     ensures { λ r. ⌜ r ≡ hasFailed checks failures check ⌝ }
 {
     match check {
@@ -150,6 +150,7 @@ pub extern "C" fn office_has_failed(failures: u8, check: u8) -> bool
         32 => checks::has_failed(failures, Check::ToeSteel),
         64 => checks::has_failed(failures, Check::StemSteel),
         128 => checks::has_failed(failures, Check::Sheared),
+        256 => checks::has_failed(failures, Check::HeelSteel),
         _ => false,
     }
 }

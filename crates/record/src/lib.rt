@@ -10,7 +10,7 @@ ghost use Rattle.rules.specs.Answered.{wallAnswer};
 ghost use Rattle.rules.specs.Beyond.{loadAnswer, firstUnfit, examined};
 
 // A wall is a number for each of its fields, in file order.
-pub const FIELDS: usize = 31;
+pub const FIELDS: usize = 35;
 
 pub type Wall = [u32; FIELDS];
 
@@ -80,6 +80,14 @@ pub const TOE_STRESS: usize = 29;
 
 pub const STEM_STRESS: usize = 30;
 
+pub const HEEL_COVER: usize = 31;
+
+pub const HEEL_BAR: usize = 32;
+
+pub const HEEL_SPACING: usize = 33;
+
+pub const HEEL_STRESS: usize = 34;
+
 // A load is its direction, its position, its dead and its live part.
 pub const LOAD_FIELDS: usize = 4;
 
@@ -125,7 +133,7 @@ pub const COUNTS: usize = MOST_WALLS + 1;
 
 pub type Counts = [u32; COUNTS];
 
-// The range of each field, in field order.
+// The range of each field, in field order: a row for each of document 01's, and behind them the heel's four.
 const RANGES: [Range; FIELDS] = [
     Range::Between(0, 1),
     Range::Between(500, 8000),
@@ -158,6 +166,10 @@ const RANGES: [Range; FIELDS] = [
     Range::Between(50, 500),
     Range::Between(1, 5000),
     Range::Between(1, 5000),
+    Range::Between(20, 75), // heel cover
+    Range::ABar, // heel bar
+    Range::Between(50, 500), // heel spacing
+    Range::Between(1, 5000), // heel stress
 ];
 
 // The greatest dead load, and the greatest live load, in N/m.

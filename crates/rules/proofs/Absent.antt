@@ -10,7 +10,7 @@ use Rattle.rules.specs.declared.Answer.the-variants.{Worked}
 use Rattle.rules.specs.JobFile.{Wall, Load, mostLoadsOnWall, direction, position, deadLoad, liveLoad, isDown}
 use Rattle.rules.specs.Forces.{Component}
 use Rattle.rules.specs.Bearing.{serviceBlock, factoredBlock}
-use Rattle.rules.specs.ToeAndStem.{stemLoadRows, stemLoadTable, stemTable, stemAction, toe, stem}
+use Rattle.rules.specs.ToeAndStem.{stemLoadRows, stemLoadTable, stemTable, stemAction, toe, stem, heel}
 use Rattle.rules.specs.SheetLine.{workedWall, numbersBy, line}
 use Rattle.rules.specs.Beyond.{fits, workedForces, workedBearing, bearingOf, lineOf}
 use Rattle.rules.proofs.Additive.{idle}
@@ -39,13 +39,13 @@ module _ (wall : Wall) {load : Load} (absent : Absent load) where
 
   one-more : (loads : List Load)
       → (workedWall wall (loads ++ load ∷ []) ≡ workedWall wall loads) × (workedBearing wall (loads ++ load ∷ []) ≡ workedBearing wall loads)
-  unfolding workedWall workedBearing workedForces serviceBlock factoredBlock toe stem stemAction stemTable
+  unfolding workedWall workedBearing workedForces serviceBlock factoredBlock toe stem heel stemAction stemTable
   one-more loads =
       let same = idle wall loads load (absent .dead) (absent .live) in
       rw (same .service, same .factored, same .sliding, stem-table loads) (refl, refl)
 
   module _ (loads : List Load) (n : ℕ) where
-    -- the wall is worked as it is under its own loads: each force, each block, the toe and the stem
+    -- the wall is worked as it is under its own loads: each force, each block, the toe, the stem and the heel
     pub worked-same : workedWall wall (loads ++ replicate n load) ≡ workedWall wall loads
     worked-same = repeated (workedWall wall) load (λ these. one-more these .0) n loads
 

@@ -1,4 +1,4 @@
--- What it tells of a wall that its fields fit: each of the 31 lies in its range. One law serves all of them, since the ranges stand in a table.
+-- What it tells of a wall that its fields fit: each of the 35 lies in its range. One law serves all of them, since the ranges stand in a table.
 -- And what it tells of a load that it fits its wall.
 use mathlib.Core.Path.{_≡_, refl, sym, subst}
 use mathlib.Core.Bool.{Bool, true, false, _&&_, _||_, cond, and-eq-true-iff}

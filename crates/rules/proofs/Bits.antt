@@ -1,7 +1,7 @@
--- Document 01, "The sheet line": what the byte of failures tells. A bit is set just where the words of its check hold, and no other bit is ever set.
+-- Document 01, "The sheet line": what the word of failures tells. A bit is set just where the words of its check hold, and no other bit is ever set.
 use mathlib.Core.Path.{_≡_, refl, _∙_}
 use mathlib.Core.Logic.{_↔_, Iff·trans, _≢_, _⊎_, inl, inr, ⊎-elim, dite}
-use mathlib.Core.Bool.{Bool, true, false, not, _&&_, _||_, cond, and-assoc}
+use mathlib.Core.Bool.{Bool, true, false, not, _&&_, _||_, cond, and-assoc, or-assoc}
 use mathlib.Core.List.{List, [], _∷_, map}
 use Prim.Native.Nat.{ℕ, zero, suc, _+_, _*_, _/_, _%_, _^_, _≤_, _<_, max}
 use native.Mathlib.Nat.{div-div-eq-div-mul, zero-div}
@@ -15,16 +15,16 @@ use lib.ListN.{length, getD}
 use lib.Signed.{ltZ, _<ℤ_, ltZ-yes}
 use Rattle.whole.specs.Rounding.{roundedUp}
 use Rattle.rules.specs.declared.Check.{Check}
-use Rattle.rules.specs.declared.Check.the-variants.{Slides, Overturns, OverAllowable, NoServiceBlock, NoFactoredBlock, ToeSteel, StemSteel, Sheared}
+use Rattle.rules.specs.declared.Check.the-variants.{Slides, Overturns, OverAllowable, NoServiceBlock, NoFactoredBlock, ToeSteel, StemSteel, Sheared, HeelSteel}
 use Rattle.rules.specs.declared.Kind.{Kind}
 use Rattle.rules.specs.declared.Kind.the-variants.{Full, FromToe, FromHeel, NoBlock}
 use Rattle.rules.specs.declared.Section.{Section}
 use Rattle.rules.specs.declared.Member.{Member}
 use Rattle.rules.specs.declared.Totals.{Totals}
-use Rattle.rules.specs.JobFile.{Wall, Load, kind, toeLength, allowableBearing}
+use Rattle.rules.specs.JobFile.{Wall, Load, kind, toeLength, heelLength, allowableBearing}
 use Rattle.rules.specs.Forces.{squared, service, passive, friction, isPropped, slidingUnder, slidingOf}
 use Rattle.rules.specs.Bearing.{serviceScale, reported, noBlock, ofKind, blockOf, given, blockUnder, serviceBlock, factoredBlock, isGivenKind, pressedBy}
-use Rattle.rules.specs.ToeAndStem.{toeWorked, toeAction, stemAction, toeSection, stemSection, twiceDepth, needsCompression, providedArea, requiredArea, steelFails, shearFails, memberUnder, noMember, toeUnder, toe, stem}
+use Rattle.rules.specs.ToeAndStem.{toeWorked, toeAction, stemAction, heelWorked, heelAction, toeSection, stemSection, heelSection, twiceDepth, needsCompression, providedArea, requiredArea, steelFails, shearFails, memberUnder, noMember, toeUnder, toe, stem, heelUnder, heel}
 use Rattle.rules.specs.SheetLine.{workedWall, failsBy, fails, bit, checks, bitsAmong, failuresBy, failures, isSet}
 
 -- ---- binary digits
@@ -60,7 +60,7 @@ Doubling n [] = Unit
 Doubling n (check ∷ rest) = (bit check ≡ n) × Doubling (2 * n) rest
 
 doubling : Doubling 1 checks
-doubling = (refl, (refl, (refl, (refl, (refl, (refl, (refl, (refl, tt))))))))
+doubling = (refl, (refl, (refl, (refl, (refl, (refl, (refl, (refl, (refl, tt)))))))))
 
 module _ (picks : Check → Bool) where
   -- so the bits that are picked are digits, each in its place
@@ -93,6 +93,7 @@ module _ (picks : Check → Bool) where
   bit-picked ToeSteel = digit-picked 5
   bit-picked StemSteel = digit-picked 6
   bit-picked Sheared = digit-picked 7
+  bit-picked HeelSteel = digit-picked 8
 
   -- a digit that is set is that of a check that is picked
   check-at : (n : ℕ) (list : List Check) → Doubling n list → (k : ℕ) → T (getD (map picks list) k false)
@@ -118,6 +119,10 @@ ShearBroken s shear =
 abbrev pub ToeChecked : Wall → List Load → Type 0
 ToeChecked wall loads = (0 < toeLength wall) × (factoredBlock wall loads .kind ≢ NoBlock)
 
+-- and so is the heel
+abbrev pub HeelChecked : Wall → List Load → Type 0
+HeelChecked wall loads = (0 < heelLength wall) × (factoredBlock wall loads .kind ≢ NoBlock)
+
 abbrev pub Stated : Check → Wall → List Load → Type 0
 Stated Slides wall loads = (kind wall ≢ 1) × (pos (passive wall + friction wall loads) <ℤ service wall loads .H)
 Stated Overturns wall loads = service wall loads .Mrest <ℤ service wall loads .Mot
@@ -131,6 +136,8 @@ Stated StemSteel wall loads = SteelShort (stemSection wall) (stemAction wall loa
 Stated Sheared wall loads =
     (ToeChecked wall loads × ShearBroken (toeSection wall) (toeAction wall (factoredBlock wall loads) .shear))
     ⊎ ShearBroken (stemSection wall) (stemAction wall loads .shear)
+    ⊎ (HeelChecked wall loads × ShearBroken (heelSection wall) (heelAction wall (factoredBlock wall loads) .shear))
+Stated HeelSteel wall loads = HeelChecked wall loads × SteelShort (heelSection wall) (heelAction wall (factoredBlock wall loads) .moment)
 
 -- ---- tests and the facts that they decide
 
@@ -205,9 +212,13 @@ module _ (wall : Wall) (loads : List Load) where
   unfolding toeWorked
   toe-checked = and is-less (unless not-given)
 
+  heel-checked : Passed (heelWorked wall (factoredBlock wall loads)) (HeelChecked wall loads)
+  unfolding heelWorked
+  heel-checked = and is-less (unless not-given)
+
   -- so each check's test is passed just where its words hold
   decided : (check : Check) → Passed (fails check wall loads) (Stated check wall loads)
-  unfolding workedWall failsBy pressedBy slidingOf slidingUnder isPropped toe toeUnder stem memberUnder
+  unfolding workedWall failsBy pressedBy slidingOf slidingUnder isPropped toe toeUnder stem heel heelUnder memberUnder
   decided Slides = and not-equal is-lessℤ
   decided Overturns = is-lessℤ
   decided OverAllowable = less-than-either
@@ -215,7 +226,9 @@ module _ (wall : Wall) (loads : List Load) where
   decided NoFactoredBlock = not-given
   decided ToeSteel = rw (check-if (λ m. m .steel .fails) refl) (and toe-checked (steel-short _ _))
   decided StemSteel = steel-short _ _
-  decided Sheared = rw (check-if (λ m. m .sheared) refl) (or (and toe-checked (shear-broken _ _)) (shear-broken _ _))
+  decided Sheared =
+      rw (or-assoc, check-if (λ m. m .sheared) refl (toeWorked wall _), check-if (λ m. m .sheared) refl (heelWorked wall _)) (or (and toe-checked (shear-broken _ _)) (or (shear-broken _ _) (and heel-checked (shear-broken _ _))))
+  decided HeelSteel = rw (check-if (λ m. m .steel .fails) refl) (and heel-checked (steel-short _ _))
 
   pub stated : (check : Check) → T (fails check wall loads) ↔ Stated check wall loads
   stated check = decided check .passed
@@ -229,10 +242,10 @@ module _ (wall : Wall) (loads : List Load) where
   unfolding failuresBy
   bits check = rw (bit-picked failing check) (stated check)
 
-  -- failures are one byte
-  pub one-byte : failures wall loads < 256
+  -- failures are two bytes, of which three hex digits show all
+  pub two-bytes : failures wall loads < 512
   unfolding failuresBy
-  one-byte = omega (arith, digits-of failing 1 checks doubling, digits-below (map failing checks))
+  two-bytes = omega (arith, digits-of failing 1 checks doubling, digits-below (map failing checks))
 
   -- and a bit that is set is that of a check whose words hold
   pub nothing-else : (k : ℕ) → failures wall loads / 2 ^ k % 2 ≡ 1 → (check : Check) × (bit check ≡ 2 ^ k) × Stated check wall loads

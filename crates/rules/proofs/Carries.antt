@@ -218,7 +218,7 @@ module _ (R M6 l : ℤ) (hR : pos 0 <ℤ R) (hl : pos 0 <ℤ l) where
 
   -- a straight-line block that carries R and turns M6 is of the kind that they make, and has its figures
   figures : (other : Block) → Proper other → (k : Kind) → other .kind ≡ k → HasKind k l other → Same (carried other) (overOne R)
-      → Same (sixMomentsAs k l other) (overOne M6) → Makes k R M6 l × SameBlock other (ofKind k R M6 l)
+      → Same (sixMomentsAs k (overOne l) other) (overOne M6) → Makes k R M6 l × SameBlock other (ofKind k R M6 l)
   unfolding ofKind
   figures other h Full e s c t =
       let f =

@@ -32,11 +32,11 @@ lowA = set wallA 1 2000
 
 unfoldable twoWalls : File
 unfolding lowA
-twoWalls = u16s (1 ∷ 2 ∷ 12 ∷ 0 ∷ 260 ∷ 260 ∷ []) ++ u32s (lowA ++ wallA)
+twoWalls = u16s (1 ∷ 2 ∷ 12 ∷ 0 ∷ 292 ∷ 292 ∷ []) ++ u32s (lowA ++ wallA)
 
 -- room for both lines
 abbrev lent : List ℤ
-lent = replicate 32 (pos 0)
+lent = replicate 38 (pos 0)
 
 abbrev after : List ℤ
 after = bufferAfter twoWalls lent
@@ -47,7 +47,7 @@ numberAt buffer wall place = getD buffer (lineNumbers * wall + place) (pos 0)
 
 -- the first figure of the first wall's R, in print, and room for the print
 abbrev leading : List ℕ → ℕ
-leading text = getD text 5 0
+leading text = getD text 6 0
 
 abbrev blank : List ℕ
 blank = replicate sheetRoom 0
@@ -58,7 +58,7 @@ areBytes = every (λ n. ltb n 256)
 
 -- what the rules make of it, and of case A
 record WorkedOut : Type 0 where
-  answered : answerTo twoWalls 32 ≡ Worked
+  answered : answerTo twoWalls 38 ≡ Worked
   passes : T (accepted twoWalls)
   bytes : T (areBytes twoWalls)
   two : wallCount twoWalls ≡ 2
@@ -114,7 +114,7 @@ all-same P x has (suc n) = (has, all-same P x has n)
 -- so it is where the job above hasn't this
 told : (Has : File → List ℤ → List ℤ → Type 0) → (Has twoWalls lent after → ⊥) → NoVersion Has
 told Has hasNot v meets each =
-    let may : Given twoWalls lent = (all-bytes twoWalls (worked-out .bytes), all-same (SFits w64) (pos 0) (record { sfits = omega arith }) 32) in
+    let may : Given twoWalls lent = (all-bytes twoWalls (worked-out .bytes), all-same (SFits w64) (pos 0) (record { sfits = omega arith }) 38) in
     let call = meets twoWalls lent may in
     hasNot (rw (call .holds) at (each twoWalls lent may (call .answered ∙ worked-out .answered)))
 
@@ -150,7 +150,7 @@ in-print p meets file bytes n is =
     let room : sheetRoom ≤ length blank = omega (arith, length-replicate {A = ℕ} sheetRoom 0) in
     ap leading (meets file blank bytes all-blank .holds)
     ∙ ap (λ (text : List ℕ). leading (onto text blank)) (fits sheetRoom (printed file) blank room)
-    ∙ still-there (printed file) (drop (length (printed file)) blank) 5 n is
+    ∙ still-there (printed file) (drop (length (printed file)) blank) 6 n is
 
 pub case-A-for-all : (p : Printer) → MeetsText p
     → ((file : File) (before : List ℕ) → All IsByte file → All IsByte before → T (accepted file) → p .leaves file before ≡ p .leaves caseA before) → ⊥

@@ -9,9 +9,9 @@ use borrow.Author.Tests.{le-leb, leb-true}
 use lib.Dec.{T, nltb→le}
 use lib.Ieee.Bits.{is-true}
 use Rattle.rules.specs.declared.Section.{Section}
-use Rattle.rules.specs.JobFile.{Wall, wallFits, toeBar, stemBar}
+use Rattle.rules.specs.JobFile.{Wall, wallFits, toeBar, stemBar, heelBar}
 use Rattle.rules.specs.Forces.{squared}
-use Rattle.rules.specs.ToeAndStem.{toeSection, stemSection, twiceDepth, needsCompression, bears, greatest, leverArm}
+use Rattle.rules.specs.ToeAndStem.{toeSection, stemSection, heelSection, twiceDepth, needsCompression, bears, greatest, leverArm}
 use Rattle.rules.proofs.Accepted.{ranged, bar-most}
 
 -- the three tests of a lever arm, as document 01 has them
@@ -102,6 +102,10 @@ pub stem-depth : (wall : Wall) → T (wallFits wall) → 2 ≤ twiceDepth (stemS
 unfolding twiceDepth
 stem-depth wall fits = let of = ranged wall fits in omega (arith, of 3 tt, of 27 tt, bar-most (stemBar wall) (of 28 tt))
 
+pub heel-depth : (wall : Wall) → T (wallFits wall) → 2 ≤ twiceDepth (heelSection wall)
+unfolding twiceDepth
+heel-depth wall fits = let of = ranged wall fits in omega (arith, of 6 tt, of 32 tt, bar-most (heelBar wall) (of 33 tt))
+
 -- unless a moment needs compression steel, the section's lever arm keeps the three tests
 abbrev pub HasLever : Section → Type 0
 HasLever s =
@@ -117,3 +121,6 @@ toe-lever wall fits = deep-lever (toeSection wall) (toe-depth wall fits)
 
 pub stem-lever : (wall : Wall) → T (wallFits wall) → HasLever (stemSection wall)
 stem-lever wall fits = deep-lever (stemSection wall) (stem-depth wall fits)
+
+pub heel-lever : (wall : Wall) → T (wallFits wall) → HasLever (heelSection wall)
+heel-lever wall fits = deep-lever (heelSection wall) (heel-depth wall fits)

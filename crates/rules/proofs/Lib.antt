@@ -3,6 +3,7 @@ pub mod Accepted
 pub mod AcceptedFile
 pub mod Additive
 pub mod AsBefore
+pub mod Behind
 pub mod Bits
 pub mod ByRoot
 pub mod Bytes
@@ -13,6 +14,7 @@ pub mod Doubles
 pub mod Drawings
 pub mod Examined
 pub mod Fitting
+pub mod HeelBearing
 pub mod Hundredths
 pub mod Idle
 pub mod Lever

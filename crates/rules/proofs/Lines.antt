@@ -2,7 +2,7 @@
 use mathlib.Core.Path.{_≡_, refl}
 use mathlib.Core.Bool.{Bool, true, false, _||_, cond}
 use mathlib.Core.List.{List, [], _∷_}
-use Prim.Native.Nat.{ℕ, _-_, _*_, _≤_}
+use Prim.Native.Nat.{ℕ, _+_, _-_, _*_, _≤_}
 use native.Mathlib.Nat.{mul-le-mul, le-trans}
 use native.Mathlib.Omega.{arith}
 use lib.Dec.{T, ltb, le→leb, lit<}
@@ -13,26 +13,26 @@ use Rattle.whole.specs.Parts.{aboveZero}
 use Rattle.whole.specs.Rounding.{roundedUp}
 use Rattle.whole.proofs.Integer.{≤ℤ-of-<ℤ, pos-≤ℤ, sub-<ℤ, above-less, abs-less}
 use Rattle.whole.proofs.Lists.{All, all-joined, case}
-use Rattle.whole.proofs.Rounded.{up-within}
+use Rattle.whole.proofs.Rounded.{up-within, up-least}
 use Rattle.rules.specs.declared.Kind.{Kind}
 use Rattle.rules.specs.declared.Kind.the-variants.{Full, FromToe, FromHeel, NoBlock}
 use Rattle.rules.specs.declared.Block.{Block}
 use Rattle.rules.specs.declared.Section.{Section}
 use Rattle.rules.specs.declared.Action.{Action}
 use Rattle.rules.specs.declared.Member.{Member}
-use Rattle.rules.specs.JobFile.{Wall, Load, stemHeight, toeLength, baseThickness, restCoefficient, baseLength, wallHeight, isDown, position, deadLoad, liveLoad, reach}
+use Rattle.rules.specs.JobFile.{Wall, Load, stemHeight, stemThickness, toeLength, heelLength, baseThickness, baseDensity, restCoefficient, baseLength, wallHeight, isDown, position, deadLoad, liveLoad, reach}
 use Rattle.rules.specs.Forces.{saturatedHeight, Component, deadPush, livePush, across, pushRows, horizontal, moment, columnSum, tenths, passive, frictionUnder, lastingWeight, isPropped, slidingUnder, slidingOf, proppingForce}
 use Rattle.rules.specs.Bearing.{serviceScale, greatestPeak, blockUnder, serviceBlock, factoredBlock, pressedBy}
-use Rattle.rules.specs.ToeAndStem.{twiceArm, straightShear, straightMoment, straight, toeWorked, toeAction, stemLoadRows, stemLoadTable, stemTable, stemAction, toeSection, stemSection, memberUnder, toeUnder, toe, stem}
+use Rattle.rules.specs.ToeAndStem.{twiceArm, twiceHeelArm, straightShear, straightMoment, straight, toeWorked, toeAction, stemLoadRows, stemLoadTable, stemTable, stemAction, toeSection, fillOnHeel, shearOnHeel, momentOnHeel, heelWorked, heelAction, stemSection, heelSection, memberUnder, toeUnder, toe, stem, heelUnder, heel}
 use Rattle.rules.specs.SheetLine.{workedWall, numbersBy, line}
 use Rattle.rules.specs.Beyond.{isWorkable}
-use Rattle.rules.proofs.Accepted.{WallWithin, wall-within, longest, wall-height, LoadWithin, load-within}
+use Rattle.rules.proofs.Accepted.{most, WallWithin, wall-within, longest, wall-height, LoadWithin, load-within}
 use Rattle.rules.proofs.Examined.{AllFit, Fit}
-use Rattle.rules.proofs.Bits.{one-byte}
+use Rattle.rules.proofs.Bits.{two-bytes}
 use Rattle.rules.proofs.Pressures.{Pressable, WithinPeak, given-most, factored-pressable, reported-most, scaled-most, line-most}
-use Rattle.rules.proofs.Sections.{toe-workable, stem-workable, required-most}
+use Rattle.rules.proofs.Sections.{toe-workable, stem-workable, heel-workable, required-most}
 use Rattle.rules.proofs.ToeBearing.{before, never-more}
-use Rattle.rules.proofs.Sizes.{Sound, push, pushes-sound, stem-face, Small, Moderate, each, row-at, column-moderate, service-sized}
+use Rattle.rules.proofs.Sizes.{weighed, Sound, push, pushes-sound, stem-face, Small, Moderate, each, row-at, column-moderate, service-sized}
 
 -- a member's figures are small
 record SmallMember (m : Member) : Type 0 where
@@ -94,6 +94,38 @@ toe-small wall loads fit =
     let b = factoredBlock wall loads in
     let acts = toe-action-small wall b (wall-within wall (fit .wall-fits)) (factored-pressable wall loads fit) in
     case (toeWorked wall b) _ _ SmallMember (λ t. member-small (toeSection wall) (toe-workable wall (fit .wall-fits)) _ acts)
+    (λ t. record { shear = omega arith; moment = omega arith; required = omega arith })
+
+-- ---- the heel: from what stands on it only something is taken
+
+-- what stands on it, in tenths of a N
+pub fill-most : {wall : Wall} → WallWithin wall → fillOnHeel wall ≤ 40000000
+unfolding fillOnHeel
+fill-most w = let weights = weighed w in omega arith
+
+-- the base over it, in tenths
+pub slab-most : {wall : Wall} → WallWithin wall → 14 * baseDensity wall * baseThickness wall ≤ 14 * most 11 * most 6
+slab-most {wall} w = omega (arith, mul-le-mul (w .base-density .1) (w .base-thickness .1))
+
+pub heel-arm-most : {wall : Wall} → WallWithin wall → (twiceHeelArm wall ≤ longest) × (heelLength wall + stemThickness wall ≤ longest)
+heel-arm-most w = omega arith
+
+heel-action-small : (wall : Wall) (b : Block) → WallWithin wall → Small (heelAction wall b .shear) × Small (heelAction wall b .moment)
+unfolding heelAction shearOnHeel momentOnHeel
+heel-action-small wall b w =
+    let fill = fill-most w in
+    let slab = slab-most w in
+    let arm = heel-arm-most w in
+    let shear : shearOnHeel wall ≤ 10000000 = up-least _ (omega (arith, mul-le-mul slab (w .heel-length .1))) in
+    let moment : momentOnHeel wall ≤ 100000000000 = up-least _ (omega (arith, mul-le-mul slab (mul-le-mul (arm .0) (arm .0)), mul-le-mul fill (arm .1))) in
+    omega arith
+
+heel-small : (wall : Wall) (loads : List Load) → Fit wall loads → SmallMember (heel wall loads)
+unfolding heel heelUnder
+heel-small wall loads fit =
+    let b = factoredBlock wall loads in
+    let acts = heel-action-small wall b (wall-within wall (fit .wall-fits)) in
+    case (heelWorked wall b) _ _ SmallMember (λ t. member-small (heelSection wall) (heel-workable wall (fit .wall-fits)) _ acts)
     (λ t. record { shear = omega arith; moment = omega arith; required = omega arith })
 
 -- ---- the stem
@@ -177,4 +209,4 @@ line-small {wall} {loads} n h fit =
     let H = abs-less (s .H .0) (s .H .1) in
     let served = service-most wall loads in
     let pressed = reported-most (factored-pressable wall loads fit) in
-    omega (arith, one-byte wall loads, propping-small wall loads fit, s .M6, toe-small wall loads fit, stem-small wall loads fit)
+    omega (arith, two-bytes wall loads, propping-small wall loads fit, s .M6, toe-small wall loads fit, stem-small wall loads fit, heel-small wall loads fit)

@@ -11,12 +11,12 @@ use Rattle.whole.proofs.Lists.{case}
 use Rattle.whole.specs.Rounding.{roundedUp}
 use Rattle.whole.proofs.Rounded.{up-least}
 use Rattle.rules.specs.declared.Section.{Section}
-use Rattle.rules.specs.JobFile.{Wall, toeBar, stemBar, wallFits}
+use Rattle.rules.specs.JobFile.{Wall, toeBar, stemBar, heelBar, wallFits}
 use Rattle.rules.specs.Forces.{squared}
-use Rattle.rules.specs.ToeAndStem.{sectionOf, toeSection, stemSection, twiceDepth, needsCompression, leverArm, neededArea, leastArea, requiredArea}
+use Rattle.rules.specs.ToeAndStem.{sectionOf, toeSection, stemSection, heelSection, twiceDepth, needsCompression, leverArm, neededArea, leastArea, requiredArea}
 use Rattle.rules.specs.Beyond.{sectionLimit, isSmall, isWorkable}
 use Rattle.rules.proofs.Accepted.{both, ranged, bar-most}
-use Rattle.rules.proofs.Lever.{toe-depth, stem-depth, HasLever, deep-lever}
+use Rattle.rules.proofs.Lever.{toe-depth, stem-depth, heel-depth, HasLever, deep-lever}
 use Rattle.rules.proofs.Sizes.{Small}
 
 -- each number of a section is below the limit
@@ -82,6 +82,12 @@ module _ (wall : Wall) (fits : T (wallFits wall)) where
       let of = ranged wall fits in
       own (omega (arith, of 3 tt)) (omega (arith, of 27 tt)) (omega (arith, bar-most (stemBar wall) (of 28 tt))) (omega (arith, of 29 tt)) (omega (arith, of 31 tt))
       (stem-depth wall fits)
+
+  pub heel-workable : T (isWorkable (heelSection wall))
+  heel-workable =
+      let of = ranged wall fits in
+      own (omega (arith, of 6 tt)) (omega (arith, of 32 tt)) (omega (arith, bar-most (heelBar wall) (of 33 tt))) (omega (arith, of 34 tt)) (omega (arith, of 35 tt))
+      (heel-depth wall fits)
 
 -- ---- what a workable section gives
 

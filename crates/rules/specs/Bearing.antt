@@ -83,15 +83,15 @@ pub record StraightLine (l : ℤ) (b : Block) : Type 0 where
 abbrev pub carried : Block → Fraction
 carried b = times (times (plus (b .toe) (b .heel)) (b .contact)) (pos 1 over pos 2)
 
--- six times its moment about the toe
-abbrev pub sixMomentsAs : Kind → ℤ → Block → Fraction
-sixMomentsAs Full l b = times (plus (b .toe) (times (overOne (pos 2)) (b .heel))) (overOne (l *ℤ l))
+-- six times its moment about the toe, on a base of length l, which need not be whole
+abbrev pub sixMomentsAs : Kind → Fraction → Block → Fraction
+sixMomentsAs Full l b = times (plus (b .toe) (times (overOne (pos 2)) (b .heel))) (times l l)
 sixMomentsAs FromToe l b = times (b .toe) (times (b .contact) (b .contact))
-sixMomentsAs FromHeel l b = times (times (b .heel) (b .contact)) (minus (overOne (pos 3 *ℤ l)) (b .contact))
+sixMomentsAs FromHeel l b = times (times (b .heel) (b .contact)) (minus (times (overOne (pos 3)) l) (b .contact))
 sixMomentsAs NoBlock l b = overOne (pos 0)
 
 abbrev pub sixMoments : ℤ → Block → Fraction
-sixMoments l b = sixMomentsAs (b .kind) l b
+sixMoments l b = sixMomentsAs (b .kind) (overOne l) b
 
 -- of one kind, with equal fractions
 pub record SameBlock (a b : Block) : Type 0 where
@@ -135,6 +135,42 @@ ofKind NoBlock R M6 l = noBlock
 
 unfoldable pub blockOf : ℤ → ℤ → ℤ → Block
 blockOf R M6 l = ofKind (kindOf R M6 l) R M6 l
+
+-- ---- the part of a block behind a section (#103 of document 02), which stands x from the toe: a straight-line block by itself, on the length that is left of the base
+
+-- the length that is left
+abbrev pub lengthBehind : ℤ → Fraction → Fraction
+lengthBehind l x = minus (overOne l) x
+
+-- the pressure at the section, on the line between a full block's ends
+abbrev pub onLineAt : ℤ → Fraction → Block → Fraction
+onLineAt l x b = dividedBy (plus (times (b .toe) (lengthBehind l x)) (times (b .heel) x)) (overOne l)
+
+-- what a peak has fallen to at a distance from it, within its contact
+abbrev pub fallen : Fraction → Fraction → Fraction → Fraction
+fallen peak contact distance = dividedBy (times peak (minus contact distance)) contact
+
+-- a full block is cut at the section. A triangle from the toe has a part there where it reaches past the section. One from the heel is cut where it reaches the section, and else stands there whole.
+unfoldable pub behindBy : Kind → ℤ → Fraction → Block → Block
+behindBy Full l x b = record { kind = Full; toe = onLineAt l x b; heel = b .heel; contact = lengthBehind l x }
+behindBy FromToe l x b =
+    cond (lessThan x (b .contact))
+    (record { kind = FromToe; toe = fallen (b .toe) (b .contact) x; heel = overOne (pos 0); contact = minus (b .contact) x })
+    noBlock
+behindBy FromHeel l x b =
+    let e = lengthBehind l x in
+    cond (lessThan e (b .contact)) (record { kind = Full; toe = fallen (b .heel) (b .contact) e; heel = b .heel; contact = e }) b
+behindBy NoBlock l x b = noBlock
+
+unfoldable pub behind : ℤ → Fraction → Block → Block
+behind l x b = behindBy (b .kind) l x b
+
+-- what it carries, and six times its moment about the section
+unfoldable pub carriedBehind : ℤ → Fraction → Block → Fraction
+carriedBehind l x b = carried (behind l x b)
+
+unfoldable pub sixMomentsBehind : ℤ → Fraction → Block → Fraction
+sixMomentsBehind l x b = let part = behind l x b in sixMomentsAs (part .kind) (lengthBehind l x) part
 
 -- ---- the reported pressures
 

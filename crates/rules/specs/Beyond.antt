@@ -27,7 +27,7 @@ use Rattle.rules.specs.JobFile.{File, Wall, Load, Entry, mostWalls, most
 use Rattle.rules.specs.Answered.{isWorked, refusedIf, _orElse_, firstBadWall, firstBadLoad}
 use Rattle.rules.specs.Forces.{service, factored, slidingOf}
 use Rattle.rules.specs.Bearing.{serviceScale, factoredScale, blockUnder, serviceBlock, factoredBlock, pressedBy}
-use Rattle.rules.specs.ToeAndStem.{stemAction, twiceDepth, memberUnder, noAction}
+use Rattle.rules.specs.ToeAndStem.{stemAction, fillOnHeel, twiceDepth, memberUnder, noAction}
 use Rattle.rules.specs.SheetLine.{lineNumbers, line, ascii, hexDigits, refusalText, printed}
 
 -- ---- one wall with its loads, which are numbered from 1: it is answered as a file would be that has just these, its header apart
@@ -59,7 +59,7 @@ abbrev pub noSliding : Sliding
 noSliding = record { passive = 0; friction = 0; slides = false; propping = 0 }
 
 abbrev pub noForces : Answer → Forces
-noForces refusal = record { answer = refusal; service = noTotals; factored = noTotals; sliding = noSliding; stem = noAction }
+noForces refusal = record { answer = refusal; service = noTotals; factored = noTotals; sliding = noSliding; stem = noAction; fill = 0 }
 
 unfoldable pub workedForces : Wall → List Load → Forces
 workedForces wall loads =
@@ -69,6 +69,7 @@ workedForces wall loads =
       factored = factored wall loads;
       sliding = slidingOf wall loads;
       stem = stemAction wall loads;
+      fill = fillOnHeel wall;
     }
 
 unfoldable pub forcesOf : Wall → List Load → Forces

@@ -64,10 +64,10 @@ firstLoadOffset file = u16At file 8
 abbrev pub wholeLength : File → ℕ
 wholeLength file = u16At file 10
 
--- ---- the records: walls of 31 u32, and behind them entries of 5 u32
+-- ---- the records: walls of 35 u32, and behind them entries of 5 u32
 
 abbrev pub wallFields : ℕ
-wallFields = 31
+wallFields = 35
 
 abbrev pub entryFields : ℕ
 entryFields = 5
@@ -239,6 +239,19 @@ toeStress wall = field wall 30
 abbrev pub stemStress : Wall → ℕ
 stemStress wall = field wall 31
 
+-- the heel's steel and its concrete's shear stress (#103 of document 02)
+abbrev pub heelCover : Wall → ℕ
+heelCover wall = field wall 32
+
+abbrev pub heelBar : Wall → ℕ
+heelBar wall = field wall 33
+
+abbrev pub heelSpacing : Wall → ℕ
+heelSpacing wall = field wall 34
+
+abbrev pub heelStress : Wall → ℕ
+heelStress wall = field wall 35
+
 -- the base's length l and the wall's height h, by document 01's "Forces"
 unfoldable pub baseLength : Wall → ℕ
 baseLength wall = toeLength wall + stemThickness wall + heelLength wall
@@ -260,7 +273,7 @@ within wall (Between low high) n = leb low n && leb n high
 within wall UpToTop n = leb n (wallHeight wall)
 within wall ABar n = among n bars
 
--- a line for each row of document 01's table
+-- a line for each row of document 01's table, and the last for the heel
 abbrev pub ranges : List Range
 ranges =
     Between 0 1
@@ -280,6 +293,7 @@ ranges =
     ∷ Between 20 75 ∷ ABar ∷ Between 50 500
     ∷ Between 20 75 ∷ ABar ∷ Between 50 500
     ∷ Between 1 5000 ∷ Between 1 5000
+    ∷ Between 20 75 ∷ ABar ∷ Between 50 500 ∷ Between 1 5000
     ∷ []
 
 -- the number of the first field out of range, from a number on; 0 where there is none

@@ -1,4 +1,4 @@
--- Document 01, "The sheet line": the checks and their bits, a wall's sixteen numbers, the result buffer after a call, and the printed text.
+-- Document 01, "The sheet line": the checks and their bits, a wall's nineteen numbers, the result buffer after a call, and the printed text.
 use Prim.Native.Nat.{ℕ, zero, suc, _+_, _-_, _*_, _/_, _%_, max}
 use Prim.Native.Char.{code}
 use Prim.Native.String.{String, [] as empty, _∷_ as _then_}
@@ -13,13 +13,13 @@ use Rattle.whole.specs.Parts.{aboveZero}
 use Rattle.rules.specs.declared.Answer.{Answer}
 use Rattle.rules.specs.declared.Answer.the-variants.{BufferTooShort}
 use Rattle.rules.specs.declared.Check.{Check}
-use Rattle.rules.specs.declared.Check.the-variants.{Slides, Overturns, OverAllowable, NoServiceBlock, NoFactoredBlock, ToeSteel, StemSteel, Sheared}
+use Rattle.rules.specs.declared.Check.the-variants.{Slides, Overturns, OverAllowable, NoServiceBlock, NoFactoredBlock, ToeSteel, StemSteel, Sheared, HeelSteel}
 use Rattle.rules.specs.declared.WorkedWall.{WorkedWall}
 use Rattle.rules.specs.JobFile.{File, Wall, Load, Entry, wallCount, allowableBearing, walls, entries, loadsOn}
 use Rattle.rules.specs.Answered.{number, place, isWorked, refusedIf, _orElse_, firstRefusal}
 use Rattle.rules.specs.Forces.{service, slidingOf}
 use Rattle.rules.specs.Bearing.{serviceScale, factoredScale, serviceBlock, factoredBlock, isGiven, pressedBy}
-use Rattle.rules.specs.ToeAndStem.{toe, stem}
+use Rattle.rules.specs.ToeAndStem.{toe, stem, heel}
 
 -- ---- a wall that is worked
 
@@ -32,6 +32,7 @@ workedWall wall loads =
       factored = pressedBy factoredScale (factoredBlock wall loads);
       toe = toe wall loads;
       stem = stem wall loads;
+      heel = heel wall loads;
     }
 
 -- ---- the checks
@@ -45,7 +46,8 @@ failsBy NoServiceBlock wall w = not (isGiven (w .service .block))
 failsBy NoFactoredBlock wall w = not (isGiven (w .factored .block))
 failsBy ToeSteel wall w = w .toe .steel .fails
 failsBy StemSteel wall w = w .stem .steel .fails
-failsBy Sheared wall w = w .toe .sheared || w .stem .sheared
+failsBy Sheared wall w = w .toe .sheared || w .stem .sheared || w .heel .sheared
+failsBy HeelSteel wall w = w .heel .steel .fails
 
 abbrev pub fails : Check → Wall → List Load → Bool
 fails check wall loads = failsBy check wall (workedWall wall loads)
@@ -59,11 +61,12 @@ bit NoFactoredBlock = 16
 bit ToeSteel = 32
 bit StemSteel = 64
 bit Sheared = 128
+bit HeelSteel = 256
 
 abbrev pub checks : List Check
-checks = Slides ∷ Overturns ∷ OverAllowable ∷ NoServiceBlock ∷ NoFactoredBlock ∷ ToeSteel ∷ StemSteel ∷ Sheared ∷ []
+checks = Slides ∷ Overturns ∷ OverAllowable ∷ NoServiceBlock ∷ NoFactoredBlock ∷ ToeSteel ∷ StemSteel ∷ Sheared ∷ HeelSteel ∷ []
 
--- the bits of the checks that a test picks, in one byte
+-- the bits of the checks that a test picks, in two bytes
 unfoldable pub bitsAmong : List Check → (Check → Bool) → ℕ
 bitsAmong [] picks = 0
 bitsAmong (check ∷ rest) picks = cond (picks check) (bit check) 0 + bitsAmong rest picks
@@ -74,14 +77,14 @@ failuresBy wall w = bitsAmong checks (λ check. failsBy check wall w)
 abbrev pub failures : Wall → List Load → ℕ
 failures wall loads = failuresBy wall (workedWall wall loads)
 
--- is a check's bit set in a byte?
+-- is a check's bit set among some failures?
 unfoldable pub isSet : ℕ → Check → Bool
-isSet byte check = eqb (byte / bit check % 2) 1
+isSet found check = eqb (found / bit check % 2) 1
 
 -- ---- the line of wall number n
 
 abbrev pub lineNumbers : ℕ
-lineNumbers = 16
+lineNumbers = 19
 
 unfoldable pub numbersBy : ℕ → Wall → WorkedWall → List ℤ
 numbersBy n wall w =
@@ -101,6 +104,9 @@ numbersBy n wall w =
     ∷ pos (w .stem .action .shear)
     ∷ pos (w .stem .action .moment)
     ∷ pos (w .stem .steel .required)
+    ∷ pos (w .heel .action .shear)
+    ∷ pos (w .heel .action .moment)
+    ∷ pos (w .heel .steel .required)
     ∷ []
 
 unfoldable pub line : ℕ → Wall → List Load → List ℤ
@@ -171,11 +177,11 @@ unfoldable pub lineRest : List ℤ → List ℕ
 lineRest [] = code "\n" ∷ []
 lineRest (z ∷ zs) = code " " ∷ signedDecimal z ++ lineRest zs
 
--- a line's numbers; the second of them, the failures, is printed in two hex digits
+-- a line's numbers; the second of them, the failures, is printed in three hex digits
 unfoldable pub lineText : List ℤ → List ℕ
 lineText numbers =
     signedDecimal (getD numbers 0 (pos 0))
-    ++ code " " ∷ hexDigits 2 (aboveZero (getD numbers 1 (pos 0)))
+    ++ code " " ∷ hexDigits 3 (aboveZero (getD numbers 1 (pos 0)))
     ++ lineRest (drop 2 numbers)
 
 unfoldable pub refusalText : Answer → List ℕ

@@ -1,4 +1,4 @@
--- Document 01, "Toe and stem": what bends and shears the toe and the stem, and the steel and shear rules, which are one for every section.
+-- Document 01, "Toe and stem": what bends and shears the toe, the stem and (#103 of document 02) the heel, and the steel and shear rules, which are one for every section.
 -- Shears are in N and moments in N mm, on a metre's run; pressures in N/m2; areas in hundredths of mm2 (#106 of document 02).
 use Prim.Native.Nat.{ℕ, zero, suc, _+_, _-_, _*_, max}
 use mathlib.Core.Bool.{Bool, true, false, not, _&&_, _||_, cond}
@@ -16,9 +16,9 @@ use Rattle.rules.specs.declared.Section.{Section}
 use Rattle.rules.specs.declared.Action.{Action}
 use Rattle.rules.specs.declared.Steel.{Steel}
 use Rattle.rules.specs.declared.Member.{Member}
-use Rattle.rules.specs.JobFile.{Wall, Load, stemHeight, stemThickness, toeLength, baseThickness, baseDensity, restCoefficient, concreteStrength, steelStrength, leastSteel, toeCover, toeBar, toeSpacing, stemCover, stemBar, stemSpacing, toeStress, stemStress, baseLength, bars, isDown, position, deadLoad, liveLoad}
-use Rattle.rules.specs.Forces.{perVolume, squared, saturatedHeight, Component, deadPush, livePush, across, pushRows, horizontal, moment, columnSum, tenths}
-use Rattle.rules.specs.Bearing.{_over_, overOne, minus, times, dividedBy, lessThan, factoredScale, reported, factoredBlock, isGiven}
+use Rattle.rules.specs.JobFile.{Wall, Load, stemHeight, stemThickness, toeLength, heelLength, baseThickness, baseDensity, restCoefficient, concreteStrength, steelStrength, leastSteel, toeCover, toeBar, toeSpacing, stemCover, stemBar, stemSpacing, toeStress, stemStress, heelCover, heelBar, heelSpacing, heelStress, baseLength, bars, isDown, position, deadLoad, liveLoad}
+use Rattle.rules.specs.Forces.{perVolume, squared, saturatedHeight, saturatedWeight, moistWeight, surchargeWeight, Component, deadPush, livePush, across, pushRows, horizontal, moment, columnSum, tenths}
+use Rattle.rules.specs.Bearing.{_over_, overOne, minus, times, dividedBy, lessThan, carriedBehind, sixMomentsBehind, factoredScale, reported, factoredBlock, isGiven}
 
 -- ---- the factored pressure at a point, rounded up. Distances are given twice, so that half a millimetre is exact.
 
@@ -167,6 +167,52 @@ stemAction wall loads =
       moment = roundedUp (aboveZero (columnSum tenths moment (stemTable wall loads))) (6 * 10);
     }
 
+-- ---- the heel: what stands on it less what the exact factored block bears from below (#103 of document 02). Loads down aren't counted
+
+-- 2b: twice the length from the middle of the stem to the heel's end
+abbrev pub twiceHeelArm : Wall → ℕ
+twiceHeelArm wall = 2 * heelLength wall + stemThickness wall
+
+-- 1.4 x fill and 1.6 x surcharge, in tenths of a N; the weights are whole newtons
+unfoldable pub fillOnHeel : Wall → ℕ
+fillOnHeel wall = 14 * (saturatedWeight wall + moistWeight wall) + 16 * surchargeWeight wall
+
+-- with 1.4 x base density x tb x lh, which is exact: the one rounding is up
+unfoldable pub shearOnHeel : Wall → ℕ
+shearOnHeel wall =
+    roundedUp (14 * baseDensity wall * baseThickness wall * heelLength wall + perVolume * fillOnHeel wall) (10 * perVolume)
+
+-- about the middle of the stem: the base weighs over b at b/2, and b^2 is a quarter of (2b)^2; fill and surcharge act at (lh + tw)/2
+unfoldable pub momentOnHeel : Wall → ℕ
+momentOnHeel wall =
+    roundedUp
+    (14 * baseDensity wall * baseThickness wall * squared (twiceHeelArm wall)
+    + 4 * perVolume * (fillOnHeel wall * (heelLength wall + stemThickness wall)))
+    (4 * 2 * 10 * perVolume)
+
+-- where the heel begins
+abbrev pub stemBack : Wall → Fraction
+stemBack wall = plain (toeLength wall + stemThickness wall)
+
+-- so many to the unit, rounded down: the one rounding of what bears on the heel
+unfoldable pub wholeOf : ℕ → Fraction → ℕ
+wholeOf per bearing = roundedDown (aboveZero (bearing .over)) (per * aboveZero (bearing .under))
+
+-- what the block bears under lh, from tenths of a N; and its moment about the middle of the stem, from tenths of a sixth of a N mm
+unfoldable pub heelBearing : Wall → Block → Action
+heelBearing wall b =
+    let l = pos (baseLength wall) in
+    record { shear = wholeOf 10 (carriedBehind l (stemBack wall) b); moment = wholeOf (6 * 10) (sixMomentsBehind l (stemMiddle wall) b) }
+
+-- there is a heel, and a block under the base
+unfoldable pub heelWorked : Wall → Block → Bool
+heelWorked wall b = ltb 0 (heelLength wall) && isGiven b
+
+-- a difference of whole numbers is 0 where it would be negative
+unfoldable pub heelAction : Wall → Block → Action
+heelAction wall b =
+    record { shear = shearOnHeel wall - heelBearing wall b .shear; moment = momentOnHeel wall - heelBearing wall b .moment }
+
 -- ---- steel, BS 8110: one rule for every section
 
 -- the cages of a wall
@@ -175,6 +221,9 @@ toeCage wall = record { cover = toeCover wall; bar = toeBar wall; spacing = toeS
 
 abbrev pub stemCage : Wall → Cage
 stemCage wall = record { cover = stemCover wall; bar = stemBar wall; spacing = stemSpacing wall; stress = stemStress wall }
+
+abbrev pub heelCage : Wall → Cage
+heelCage wall = record { cover = heelCover wall; bar = heelBar wall; spacing = heelSpacing wall; stress = heelStress wall }
 
 -- a section has its own thickness and cage, and the wall's materials
 abbrev pub sectionOf : Wall → ℕ → Cage → Section
@@ -186,6 +235,9 @@ toeSection wall = sectionOf wall (baseThickness wall) (toeCage wall)
 
 abbrev pub stemSection : Wall → Section
 stemSection wall = sectionOf wall (stemThickness wall) (stemCage wall)
+
+abbrev pub heelSection : Wall → Section
+heelSection wall = sectionOf wall (baseThickness wall) (heelCage wall)
 
 -- D: twice the depth
 unfoldable pub twiceDepth : Section → ℕ
@@ -273,3 +325,9 @@ toe wall loads = toeUnder wall (factoredBlock wall loads)
 
 unfoldable pub stem : Wall → List Load → Member
 stem wall loads = memberUnder (stemSection wall) (stemAction wall loads)
+
+unfoldable pub heelUnder : Wall → Block → Member
+heelUnder wall b = cond (heelWorked wall b) (memberUnder (heelSection wall) (heelAction wall b)) noMember
+
+unfoldable pub heel : Wall → List Load → Member
+heel wall loads = heelUnder wall (factoredBlock wall loads)

@@ -69,14 +69,15 @@ pub struct Sliding {
     pub propping: u64,
 }
 
-// The forces on a wall under its loads: the answer, the totals in service and factored, what holds the wall, and what acts on its stem. A refusal has 0
-// for each figure.
+// The forces on a wall under its loads: the answer, the totals in service and factored, what holds the wall, what acts on its stem, and the factored fill
+// and surcharge on its heel in tenths of a N. A refusal has 0 for each figure.
 pub struct Forces {
     pub answer: Answer,
     pub service: Totals,
     pub factored: Totals,
     pub sliding: Sliding,
     pub stem: Action,
+    pub fill: u64,
 }
 
 // A fraction, which is not reduced.
@@ -124,7 +125,7 @@ pub struct Cage {
     pub stress: u64,
 }
 
-// A metre of toe or stem as the steel sees it: its thickness in mm, its cage, strengths in N/mm2, and the least steel in hundredths of a percent.
+// A metre of toe, stem or heel as the steel sees it: its thickness in mm, its cage, strengths in N/mm2, and the least steel in hundredths of a percent.
 pub struct Section {
     pub thickness: u64,
     pub cage: Cage,
@@ -145,7 +146,7 @@ pub struct Steel {
     pub fails: bool,
 }
 
-// A toe or a stem: what acts on it, its steel, and whether it fails in shear.
+// A toe, a stem or a heel: what acts on it, its steel, and whether it fails in shear.
 pub struct Member {
     pub action: Action,
     pub steel: Steel,
@@ -158,7 +159,7 @@ pub enum Verdict {
     Unworkable,
 }
 
-// A wall that is worked: its totals in service, what holds it, the blocks that bear it, its toe and its stem.
+// A wall that is worked: its totals in service, what holds it, the blocks that bear it, its toe, its stem and its heel.
 pub struct WorkedWall {
     pub totals: Totals,
     pub sliding: Sliding,
@@ -166,6 +167,7 @@ pub struct WorkedWall {
     pub factored: Pressed,
     pub toe: Member,
     pub stem: Member,
+    pub heel: Member,
 }
 
 // The checks, in the order of their bits.
@@ -178,10 +180,11 @@ pub enum Check {
     ToeSteel,
     StemSteel,
     Sheared,
+    HeelSteel,
 }
 
 // How many numbers a wall's line has.
-pub const LINE: usize = 16;
+pub const LINE: usize = 19;
 
 pub type LineNumbers = [i64; LINE];
 

@@ -10,3 +10,6 @@ toe-section = (λ _ _. tt, λ _ _ _ _ _ _. by-equation)
 
 pub stem-section : Once section.of_wall.stem_section.ended section.of_wall.stem_section.Reads.Asked section.of_wall.stem_section.Reads.Learnt
 stem-section = (λ _ _. tt, λ _ _ _ _ _ _. by-equation)
+
+pub heel-section : Once section.of_wall.heel_section.ended section.of_wall.heel_section.Reads.Asked section.of_wall.heel_section.Reads.Learnt
+heel-section = (λ _ _. tt, λ _ _ _ _ _ _. by-equation)

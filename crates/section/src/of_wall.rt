@@ -1,6 +1,10 @@
 // Document 01, "Toe and stem": the cages of a wall, and its sections.
 use record::BASE_THICKNESS;
 use record::CONCRETE_STRENGTH;
+use record::HEEL_BAR;
+use record::HEEL_COVER;
+use record::HEEL_SPACING;
+use record::HEEL_STRESS;
 use record::LEAST_STEEL;
 use record::STEEL_STRENGTH;
 use record::STEM_BAR;
@@ -17,7 +21,7 @@ use rules::Cage;
 use rules::Section;
 ghost use mathlib.Core.Path.{_≡_};
 ghost use lib.ListN.{getD};
-ghost use Rattle.rules.specs.ToeAndStem.{toeCage, stemCage, sectionOf, toeSection, stemSection};
+ghost use Rattle.rules.specs.ToeAndStem.{toeCage, stemCage, heelCage, sectionOf, toeSection, stemSection, heelSection};
 
 fn toe_cage(wall: Wall) -> Cage
     ensures { λ r. ⌜ r ≡ toeCage wall ⌝ }
@@ -38,6 +42,17 @@ fn stem_cage(wall: Wall) -> Cage
         bar: record::field(wall, STEM_BAR),
         spacing: record::field(wall, STEM_SPACING),
         stress: record::field(wall, STEM_STRESS),
+    }
+}
+
+fn heel_cage(wall: Wall) -> Cage
+    ensures { λ r. ⌜ r ≡ heelCage wall ⌝ }
+{
+    Cage {
+        cover: record::field(wall, HEEL_COVER),
+        bar: record::field(wall, HEEL_BAR),
+        spacing: record::field(wall, HEEL_SPACING),
+        stress: record::field(wall, HEEL_STRESS),
     }
 }
 
@@ -64,4 +79,11 @@ pub fn stem_section(wall: Wall) -> Section
     ensures { λ r. ⌜ r ≡ stemSection wall ⌝ }
 {
     section_of(wall, STEM_THICKNESS, stem_cage(wall))
+}
+
+// The heel is as thick as the toe: both are the base.
+pub fn heel_section(wall: Wall) -> Section
+    ensures { λ r. ⌜ r ≡ heelSection wall ⌝ }
+{
+    section_of(wall, BASE_THICKNESS, heel_cage(wall))
 }

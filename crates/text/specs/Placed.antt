@@ -20,7 +20,7 @@ abbrev pub spacedNumber : ℤ → List ℕ
 spacedNumber z = code " " ∷ signedDecimal z
 
 abbrev pub spacedFailures : ℤ → List ℕ
-spacedFailures z = code " " ∷ hexDigits 2 (aboveZero z)
+spacedFailures z = code " " ∷ hexDigits 3 (aboveZero z)
 
 -- room for the numbers behind the failures, and for the end of the line
 abbrev pub restRoom : ℕ

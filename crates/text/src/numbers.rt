@@ -42,13 +42,13 @@ pub fn put_spaced(z: i64, at: usize, out: &mut [u8]) -> usize
     put_signed(z, space_end, out)
 }
 
-// A space, and then the failures in two hex digits.
+// A space, and then the failures in three hex digits.
 pub fn put_failures(failures: i64, at: usize, out: &mut [u8]) -> usize
-    requires { ⌜ at + 3 ≤ length (now out) ⌝ }
-    ensures { λ r. ⌜ PutAt at 3 (spacedFailures failures) (now (out .entry)) r (now (out .exit)) ⌝ }
+    requires { ⌜ at + 4 ≤ length (now out) ⌝ }
+    ensures { λ r. ⌜ PutAt at 4 (spacedFailures failures) (now (out .entry)) r (now (out .exit)) ⌝ }
 {
     let space_end = letters::put_byte(b' ', at, out);
-    letters::put_hex(2, whole::above_zero(failures), space_end, out)
+    letters::put_hex(3, whole::above_zero(failures), space_end, out)
 }
 
 // The numbers behind the failures, and the end of the line.

@@ -9,14 +9,15 @@ use lib.Ieee.Bits.{is-true}
 use lib.IntN.{pos}
 use lib.ListN.{replicate}
 use Rattle.rules.specs.declared.Block.{Block}
-use Rattle.rules.specs.JobFile.{Wall, Load, toeLength}
+use Rattle.rules.specs.JobFile.{Wall, Load, toeLength, heelLength}
 use Rattle.rules.specs.Answered.{isWorked}
 use Rattle.rules.specs.Bearing.{isGiven, pressedBy}
-use Rattle.rules.specs.ToeAndStem.{toeWorked, toeAction, toeSection, memberUnder, noMember, toeUnder, toe, stem}
+use Rattle.rules.specs.ToeAndStem.{toeWorked, toeAction, toeSection, memberUnder, noMember, toeUnder, toe, stem, fillOnHeel, heelWorked, heelAction, heelSection, heelUnder, heel}
 use Rattle.rules.specs.SheetLine.{workedWall, lineNumbers, line}
 use Rattle.rules.specs.Beyond.{examined, fits, noForces, workedForces, forcesOf, workedBearing, bearingOf, lineOf}
 use Rattle.rules.proofs.Carries.{worked-blocks}
 use Rattle.rules.proofs.Examined.{Fit, fits-of}
+use Rattle.rules.proofs.Behind.{factored-figures}
 use Rattle.rules.proofs.Pressures.{factored-pressable}
 use Rattle.wall.specs.Working.{Bears, workedOver}
 
@@ -34,18 +35,39 @@ module _ (wall : Wall) (b : Block) where
   unfolding toeUnder toeWorked
   toe-worked some e = rw (lt-ltb 0 (toeLength wall) some, e)
 
+-- and so is a heel
+module _ (wall : Wall) (b : Block) where
+  pub no-heel : heelLength wall ≡ 0 → heelUnder wall b ≡ noMember
+  unfolding heelUnder heelWorked
+  no-heel e = rw e
+
+  pub no-heel-bearing : isGiven b ≡ false → heelUnder wall b ≡ noMember
+  unfolding heelUnder heelWorked
+  no-heel-bearing e = rw (e, and-false (ltb 0 (heelLength wall)))
+
+  pub heel-worked : 0 < heelLength wall → isGiven b ≡ true → heelUnder wall b ≡ memberUnder (heelSection wall) (heelAction wall b)
+  unfolding heelUnder heelWorked
+  heel-worked some e = rw (lt-ltb 0 (heelLength wall) some, e)
+
 module _ (wall : Wall) (loads : List Load) (fit : Fit wall loads) where
   borne : bearingOf wall loads ≡ workedBearing wall loads
   borne = worked-blocks wall loads (is-true (fits wall loads) (fits-of wall loads fit))
 
-  -- what bears a wall that fits bears its toe
-  pub bears-toe : Bears wall (bearingOf wall loads .factored)
+  -- what bears a wall that fits bears its toe and its heel
+  pub bears : Bears wall (bearingOf wall loads .factored)
   unfolding workedBearing pressedBy
-  bears-toe = rw borne (record { reports = refl; pressable = factored-pressable wall loads fit })
+  bears =
+      let press = factored-pressable wall loads fit in
+      rw borne (record { reports = refl; pressable = press; made = record { weight = _; moment = _; figures = factored-figures wall loads fit; workable = press } })
+
+  -- and its fill is the rule's
+  pub fills : bearingOf wall loads .forces .fill ≡ fillOnHeel wall
+  unfolding workedBearing workedForces
+  fills = rw borne
 
   -- and the wall is worked from it
   pub worked-is : workedOver wall (bearingOf wall loads) ≡ workedWall wall loads
-  unfolding workedOver workedWall workedBearing workedForces pressedBy toe stem
+  unfolding workedOver workedWall workedBearing workedForces pressedBy toe stem heel
   worked-is = rw borne
 
 -- ---- refused or not

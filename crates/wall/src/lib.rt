@@ -1,4 +1,5 @@
-// Document 01, "The sheet line": one wall under its loads, worked to the sixteen numbers of its line.
+// Document 01, "The sheet line": one wall under its loads, worked to the nineteen numbers of its line.
+mod heel;
 mod members;
 mod pressure;
 mod toe;
@@ -16,14 +17,15 @@ ghost use lib.Dec.{T};
 ghost use lib.IntN.{natAbs};
 ghost use Rattle.whole.proofs.Lists.{All};
 ghost use Rattle.rules.specs.JobFile.{wallFits};
+ghost use Rattle.rules.specs.ToeAndStem.{fillOnHeel};
 ghost use Rattle.rules.specs.SheetLine.{numbersBy};
 ghost use Rattle.rules.specs.Beyond.{lineOf};
 ghost use Rattle.rules.proofs.Sizes.{Small};
 ghost use Rattle.wall.specs.Working.{Bears, workedOver};
 
-// To what bears a wall that fits come its toe and its stem.
+// To what bears a wall that fits come its toe, its stem and its heel.
 fn worked(wall: Wall, borne: Borne) -> WorkedWall
-    requires { ⌜ T (wallFits wall) × Bears wall (borne .factored) ⌝ }
+    requires { ⌜ T (wallFits wall) × Bears wall (borne .factored) × (borne .forces .fill ≡ fillOnHeel wall) ⌝ }
     ensures { λ r. ⌜ r ≡ workedOver wall borne ⌝ }
 {
     let forces = borne.forces;
@@ -38,6 +40,7 @@ fn worked(wall: Wall, borne: Borne) -> WorkedWall
         factored: factored,
         toe: members::toe_over(wall, factored),
         stem: members::stem_under(wall, forces.stem),
+        heel: members::heel_over(wall, forces.fill, factored.block),
     }
 }
 
@@ -64,6 +67,9 @@ fn numbers_of(number: u32, wall: Wall, worked: WorkedWall) -> LineNumbers
         worked.stem.action.shear as i64,
         worked.stem.action.moment as i64,
         worked.stem.steel.required as i64,
+        worked.heel.action.shear as i64,
+        worked.heel.action.moment as i64,
+        worked.heel.steel.required as i64,
     ]
 }
 

@@ -1,8 +1,11 @@
-// Document 01, "Toe and stem": the toe and the stem of a wall that fits, each with what acts on it and what its section makes of that.
+// Document 01, "Toe and stem", and document 02, #103: the toe, the stem and the heel of a wall that fits, each with what acts on it and what its section makes of that.
+use crate::heel;
 use crate::toe;
+use record::HEEL_LENGTH;
 use record::TOE_LENGTH;
 use record::Wall;
 use rules::Action;
+use rules::Block;
 use rules::Member;
 use rules::Pressed;
 use rules::Section;
@@ -11,9 +14,9 @@ use rules::Verdict;
 ghost use mathlib.Core.Path.{_≡_};
 ghost use lib.Dec.{T};
 ghost use Rattle.rules.specs.JobFile.{wallFits};
-ghost use Rattle.rules.specs.ToeAndStem.{stemSection, memberUnder, noMember, toeUnder};
+ghost use Rattle.rules.specs.ToeAndStem.{stemSection, memberUnder, noMember, toeUnder, fillOnHeel, heelUnder};
 ghost use Rattle.rules.specs.Beyond.{isWorkable};
-ghost use Rattle.wall.specs.Working.{Bears};
+ghost use Rattle.wall.specs.Working.{Bears, Made};
 
 // Figures of 0, and no check made.
 fn no_member() -> Member
@@ -66,4 +69,21 @@ pub fn stem_under(wall: Wall, action: Action) -> Member
     ensures { λ r. ⌜ r ≡ memberUnder (stemSection wall) action ⌝ }
 {
     member_of(section::of_wall::stem_section(wall), action)
+}
+
+// The heel under its fill and over a factored block; with no heel or no block it has no figure, and no check is made of it.
+pub fn heel_over(wall: Wall, fill: u64, block: Block) -> Member
+    requires { ⌜ T (wallFits wall) × (fill ≡ fillOnHeel wall) × Made wall block ⌝ }
+    ensures { λ r. ⌜ r ≡ heelUnder wall block ⌝ }
+{
+    if record::field(wall, HEEL_LENGTH) == 0 {
+        return no_member();
+    }
+    if !checks::is_given(block) {
+        return no_member();
+    }
+    member_of(
+        section::of_wall::heel_section(wall),
+        heel::heel_action(wall, fill, block),
+    )
 }

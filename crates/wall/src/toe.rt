@@ -32,13 +32,13 @@ const PER_MOMENT: u64 = 4 * 6 * PER_PRESSURE;
 const FACTOR: u64 = 14;
 
 // A weight in tenths.
-const PER_WEIGHT: u64 = 10 * PER_VOLUME;
+pub const PER_WEIGHT: u64 = 10 * PER_VOLUME;
 
 // Half of it, and a quarter for (2a)^2.
-const PER_WEIGHT_MOMENT: u64 = 4 * 2 * 10 * PER_VOLUME;
+pub const PER_WEIGHT_MOMENT: u64 = 4 * 2 * 10 * PER_VOLUME;
 
 // 2a: twice the distance of the stem's middle from the toe.
-fn twice_arm(wall: Wall) -> u64
+pub fn twice_arm(wall: Wall) -> u64
     ensures { λ r. ⌜ r ≡ twiceArm wall ⌝ }
 {
     2 * record::field(wall, TOE_LENGTH) + record::field(wall, STEM_THICKNESS)
@@ -54,7 +54,7 @@ fn squared_arm(wall: Wall) -> u64
 }
 
 // 1.4 x base density x tb, in tenths.
-fn slab(wall: Wall) -> u64
+pub fn slab(wall: Wall) -> u64
     requires { ⌜ T (wallFits wall) ⌝ }
     ensures { λ r. ⌜ (r ≡ 14 * baseDensity wall * baseThickness wall) × (r ≤ 14 * most 11 * most 6) ⌝ }
 {

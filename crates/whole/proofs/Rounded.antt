@@ -1,5 +1,5 @@
 -- The laws of a / b rounded up, down and to the nearest: which whole number each is, and how they compare. Assumes nothing.
-use mathlib.Core.Path.{_≡_, sym}
+use mathlib.Core.Path.{_≡_, sym, ap}
 use mathlib.Core.Logic.{_≢_, dite}
 use Prim.Native.Nat.{ℕ, zero, suc, _+_, _-_, _*_, _/_, _%_, _≤_, _<_, max}
 use native.Mathlib.Nat.{div-zero, zero-div, div-add-mod', mod-lt, le-mul-of-pos-right, div-mul-le-self, lt-div-mul-add, le-div-iff-mul-le, div-lt-iff-lt-mul, div-eq-of-lt-le, le-trans, mul-pos, mul-le-mul-right, le-of-mul-le-mul-right, div-div-eq-div-mul}
@@ -131,6 +131,14 @@ up-across a b c {d} h k =
 pub up-alike : (a c : ℕ) {b d : ℕ} → 0 < b → 0 < d → a * d ≡ c * b → roundedUp a b ≡ roundedUp c d
 up-alike a c {b} {d} h k e = omega (arith, up-across a b c k (omega arith), up-across c d a h (omega arith))
 
+-- and so it is where they are rounded down
+pub down-across : (a c : ℕ) {b d : ℕ} → 0 < b → 0 < d → a * d ≤ c * b → roundedDown a b ≤ roundedDown c d
+down-across a c {b} {d} h k e =
+    down-greatest k (le-of-mul-le-mul-right {k = b} (omega (arith, mul-le-mul-right d (down-within a b))) h)
+
+pub down-alike : (a c : ℕ) {b d : ℕ} → 0 < b → 0 < d → a * d ≡ c * b → roundedDown a b ≡ roundedDown c d
+down-alike a c h k e = omega (arith, down-across a c h k (omega arith), down-across c a k h (omega arith))
+
 -- ---- the three against one another, at any divisor
 -- down is at most the nearest
 pub down-nearest : (a b : ℕ) → roundedDown a b ≤ roundedNearest a b
@@ -192,6 +200,13 @@ up-twice a (suc b) (suc k) =
 pub down-twice : (a b k : ℕ) → roundedDown (roundedDown a b) k ≡ roundedDown a (b * k)
 unfolding roundedDown
 down-twice a b k = div-div-eq-div-mul a b k
+
+-- ---- a product, divided part by part: the quotient of its first factor, and then what is left of that
+pub down-by-parts : (n a : ℕ) {b : ℕ} → 0 < b → n / b * a + n % b * a / b ≡ roundedDown (n * a) b
+down-by-parts n a {b} h =
+    let p = parts n h in
+    let q = parts (n % b * a) h in
+    down-only (n * a) h (omega (arith, ap (λ (k : ℕ). k * a) (p .0))) (omega (arith, ap (λ (k : ℕ). k * a) (p .0)))
 
 -- ---- the greater of two numbers is rounded up to the greater
 pub up-max : (a c b : ℕ) → roundedUp (max a c) b ≡ max (roundedUp a b) (roundedUp c b)

@@ -27,6 +27,10 @@ exactly {k = k} {x} {f} m a h within e =
     let few : x * f < 2 ^ (k + m) = lt-of-le-of-lt (mul-le-mul-left x (le-of-lt h)) (shl-lt k m (a .few)) in
     record { same = rw (a .same, mod-eq-of-lt (lt-of-lt-of-le few (pow-mono within))) at (e .same); few = few }
 
+-- `product_of`: two numbers of 64 bits
+pub both : {w : Wide} {x y : ℕ} → x < 2 ^ 64 → y < 2 ^ 64 → Is w (x * y) → Bits w 128 (x * y)
+both {x = x} h k e = record { same = e .same; few = lt-of-le-of-lt (mul-le-mul-left x (le-of-lt k)) (shl-lt 64 64 h) }
+
 module _ {a b : Wide} {k m x y : ℕ} (ha : Bits a k x) (hb : Bits b m y) where
   -- `at_most`
   pub compared : {t : Bool} → t ≡ leb (value a) (value b) → t ≡ leb x y

@@ -23,3 +23,6 @@ quotient-down = (λ _ _. tt, λ _ _ _ _ _ _. by-equation)
 
 pub quotient-up : Once wide.quotient_up.ended wide.quotient_up.Reads.Asked wide.quotient_up.Reads.Learnt
 quotient-up = (λ _ _. tt, λ _ _ _ _ _ _. by-equation)
+
+pub share-down : Once wide.share_down.ended wide.share_down.Reads.Asked wide.share_down.Reads.Learnt
+share-down = (λ _ _. tt, λ _ _ _ _ _ _. by-equation)

@@ -284,3 +284,23 @@ pub fn quotient_up(n: Wide, d: Wide) -> u64
         u64::MAX
     }
 }
+
+// a * b, which two digits hold.
+fn product_of(a: u64, b: u64) -> Wide
+    ensures { λ r. ⌜ Is r (a * b) ⌝ }
+{
+    let both = row(a, b, 0);
+    Wide {
+        low: both.low,
+        middle: both.high,
+        high: 0,
+    }
+}
+
+// a * b * c / (m * n), rounded down; the greatest number of 64 bits where it is more than that. By 0 it is 0. Any three numbers of 64 bits have a product of
+// 192, so nothing is lost on the way.
+pub fn share_down(a: u64, b: u64, c: u64, m: u64, n: u64) -> u64
+    ensures { λ r. ⌜ r ≡ min (roundedDown (a * b * c) (m * n)) (2 ^ 64 - 1) ⌝ }
+{
+    quotient_down(times(product_of(a, b), c), product_of(m, n))
+}

@@ -11,7 +11,7 @@ use std::process::ExitCode;
 const UNPROPPED: u32 = 0;
 const PROPPED: u32 = 1;
 
-/// The bars of toe or stem, and the concrete's shear stress there.
+/// The bars of toe, stem or heel, and the concrete's shear stress there.
 #[derive(Clone, Copy)]
 struct Bars {
     cover: u32,
@@ -20,8 +20,8 @@ struct Bars {
     shear_stress: u32,
 }
 
-/// The 31 fields of a wall under their names, in document 01's order but for
-/// the two shear stresses, which stand with their bars.
+/// The 35 fields of a wall under their names, in the order of documents 01 and 02 but
+/// for the first two shear stresses, which stand with their bars.
 #[derive(Clone, Copy)]
 struct WallNumbers {
     kind: u32,
@@ -49,6 +49,7 @@ struct WallNumbers {
     least_steel: u32,
     toe_bars: Bars,
     stem_bars: Bars,
+    heel_bars: Bars,
 }
 
 impl WallNumbers {
@@ -85,6 +86,10 @@ impl WallNumbers {
             self.stem_bars.spacing,
             self.toe_bars.shear_stress,
             self.stem_bars.shear_stress,
+            self.heel_bars.cover,
+            self.heel_bars.bar,
+            self.heel_bars.spacing,
+            self.heel_bars.shear_stress,
         ]
     }
 }
@@ -148,12 +153,16 @@ const CASE_A: WallNumbers = WallNumbers {
         spacing: 200,
         shear_stress: 550,
     },
-    stem_bars: Bars {
-        cover: 40,
-        bar: 16,
-        spacing: 150,
-        shear_stress: 550,
-    },
+    stem_bars: CASE_A_STEM,
+    heel_bars: CASE_A_STEM,
+};
+
+/// The stem's bars, and the heel's.
+const CASE_A_STEM: Bars = Bars {
+    cover: 40,
+    bar: 16,
+    spacing: 150,
+    shear_stress: 550,
 };
 
 /// The wall of document 003, from its pages of details and of design.
@@ -192,6 +201,12 @@ const DOCUMENT_003: WallNumbers = WallNumbers {
         bar: 32,
         spacing: 175,
         shear_stress: 853, // 0.853 N/mm2, from Table 3.8
+    },
+    heel_bars: Bars {
+        cover: 40,
+        bar: 12,
+        spacing: 100,
+        shear_stress: 545, // 0.545 N/mm2, from Table 3.8
     },
 };
 
@@ -237,19 +252,22 @@ const DOCUMENT_004_LOWER: WallNumbers = WallNumbers {
     fcu: 35,                 // of the base; the stem's masonry has 6.4 N/mm2
     fy: 500,
     least_steel: 13, // 0.13 %
-    // The heel's, as there is no toe: A393 mesh is 10 mm at 200 mm.
-    toe_bars: Bars {
-        cover: 35,
-        bar: 10,
-        spacing: 200,
-        shear_stress: 419, // 0.419 N/mm2, from Table 3.8
-    },
+    toe_bars: A393,  // the heel's, as there is no toe
     stem_bars: Bars {
         cover: 75, // the greatest there is; a depth of 170 mm takes 124
         bar: 12,
         spacing: 100,
         shear_stress: 304, // 0.304 N/mm2, the masonry's allowable stress
     },
+    heel_bars: A393,
+};
+
+/// The mesh of document 004's heel, which is 10 mm at 200 mm.
+const A393: Bars = Bars {
+    cover: 35,
+    bar: 10,
+    spacing: 200,
+    shear_stress: 419, // 0.419 N/mm2, from Table 3.8
 };
 
 /// The stone cladding on the front edge of document 004's lower wall.
@@ -260,10 +278,17 @@ const DOCUMENT_004_LOWER_LOADS: [LoadNumbers; 1] = [LoadNumbers {
     live: 0,     // W_live
 }];
 
-/// Case A's wall made too high on too short a heel, with its steel as it was.
+/// Case A's wall made too high on too short a heel, with the steel of toe and stem as it
+/// was and too little in the heel.
 const OVERLOADED: WallNumbers = WallNumbers {
     stem_height: 4500,
     heel: 700,
+    heel_bars: Bars {
+        cover: 40,
+        bar: 10,
+        spacing: 250,
+        shear_stress: 200,
+    },
     ..CASE_A
 };
 
@@ -530,6 +555,7 @@ fn wall_of(family: &Family, size: &Size) -> RawWall {
         surcharge: family.surcharge,
         toe_bars: bars(CASE_A.toe_bars),
         stem_bars: bars(CASE_A.stem_bars),
+        heel_bars: bars(CASE_A.heel_bars),
         ..CASE_A
     };
     wall.record()

@@ -28,13 +28,19 @@ const WALLS_ALL_DRAWN: usize = 6;
 const DRAWING_ROOMS: [usize; 3] = [DRAWING_ROOM - 1, DRAWING_ROOM, DRAWING_ROOM + 2];
 
 /// No wall fails both: without a service block no pressure is over the allowable.
-const NEVER_BOTH: u8 = OVER_ALLOWABLE | NO_SERVICE_BLOCK;
+const NEVER_BOTH: u16 = OVER_ALLOWABLE | NO_SERVICE_BLOCK;
 
-/// Bytes that are no wall's failures.
-const NO_FAILURES: [u8; 4] = [NEVER_BOTH, NEVER_BOTH | 0x55, NEVER_BOTH | 0xaa, u8::MAX];
+/// Numbers that are no wall's failures; the last two have bits that no check has.
+const NO_FAILURES: [u16; 5] = [
+    NEVER_BOTH,
+    NEVER_BOTH | 0x155,
+    NEVER_BOTH | 0xaa,
+    NEVER_BOTH | 0xfe00,
+    u16::MAX,
+];
 
 /// Numbers that are no check's bit.
-const NO_CHECKS: [u8; 3] = [0, 3, u8::MAX];
+const NO_CHECKS: [u16; 6] = [0, 3, 0xff, 257, 512, u16::MAX];
 
 pub struct Comparer<'a, O> {
     office: &'a O,
@@ -128,7 +134,7 @@ impl<'a, O: Office> Comparer<'a, O> {
         })
     }
 
-    fn hold_has_failed(&mut self, failures: u8) -> Result<(), String> {
+    fn hold_has_failed(&mut self, failures: u16) -> Result<(), String> {
         for check in CHECKS.into_iter().chain(NO_CHECKS) {
             let expected = Second.has_failed(failures, check);
             let given = self.office.has_failed(failures, check);
@@ -136,7 +142,7 @@ impl<'a, O: Office> Comparer<'a, O> {
                 (given != expected).then(|| format!("the answer is {given} and not {expected}"));
             self.tally.count_asked(expected);
             held(differs, || {
-                format!("check {check} in failures {failures:02x}")
+                format!("check {check} in failures {failures:03x}")
             })?;
         }
         Ok(())

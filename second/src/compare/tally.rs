@@ -1,7 +1,8 @@
 //! What a comparison met, counted.
 
 use crate::answers::Refusal;
-use crate::bearing::{Bearing, Contact};
+use crate::bearing::{Bearing, Contact, Reported};
+use crate::heel::Reach;
 use crate::job_file::Wall;
 use crate::office::Packed;
 use crate::section::Section;
@@ -39,7 +40,7 @@ pub struct Tally {
     /// Walls, by their blocks and by the bits that are set.
     service: [u64; BLOCKS.len()],
     factored: [u64; BLOCKS.len()],
-    bits: [u64; 8],
+    bits: [u64; 9],
     /// Walls with a toe, by the tip of a factored toe triangle and of a heel triangle.
     toe_tips: [u64; TIPS.len()],
     heel_tips: [u64; TIPS.len()],
@@ -47,6 +48,15 @@ pub struct Tally {
     /// the first two places.
     toe_steel: [u64; STEEL.len()],
     stem_steel: [u64; STEEL.len()],
+    heel_steel: [u64; STEEL.len()],
+    /// Heels, by a full factored block under them and by the tip of a triangle.
+    under_heels: [u64; FULL.len()],
+    toe_reaches: [u64; REACHES.len()],
+    heel_reaches: [u64; REACHES.len()],
+    /// Walls whose heel isn't checked, by the cause.
+    heels_left_out: [u64; LEFT_OUT.len()],
+    /// Heels, by figures that count as 0 and by failing alone; one may be in several.
+    heel_facts: [u64; HEEL_FACTS.len()],
 }
 
 const SHAPES: [&str; 4] = ["nothing", "whole", "toe triangle", "heel triangle"];
@@ -68,6 +78,50 @@ const TIPS: [&str; 5] = [
     "past the middle",
 ];
 
+/// A full block with pressure at the end of the heel, and with none just there.
+const FULL: [&str; 2] = ["with pressure at the base's end", "to nothing just there"];
+
+/// In the order of [`Reach`].
+const REACHES: [&str; 5] = [
+    "before the middle",
+    "at the middle",
+    "before the back face",
+    "at the back face",
+    "past the back face",
+];
+
+const LEFT_OUT: [&str; 2] = ["no heel", "no factored block"];
+
+/// In the order of [`heel_facts`].
+const HEEL_FACTS: [&str; 6] = [
+    "V 0",
+    "M 0",
+    "steel fails",
+    "steel fails alone",
+    "shear fails",
+    "shear fails alone",
+];
+
+fn heel_facts(wall: &Worked, heel: &Section) -> [bool; HEEL_FACTS.len()] {
+    let toe = |fails: fn(&Section) -> bool| wall.toe.as_ref().is_some_and(fails);
+    let other_steel = toe(|toe| toe.steel_fails) || wall.stem.steel_fails;
+    let other_shear = toe(|toe| toe.shear_fails) || wall.stem.shear_fails;
+    [
+        heel.effects.shear == 0,
+        heel.effects.moment == 0,
+        heel.steel_fails,
+        heel.steel_fails && !other_steel,
+        heel.shear_fails,
+        heel.shear_fails && !other_shear,
+    ]
+}
+
+fn count_facts<const N: usize>(counts: &mut [u64; N], facts: [bool; N]) {
+    for (count, fact) in counts.iter_mut().zip(facts) {
+        *count += u64::from(fact);
+    }
+}
+
 /// In the order of [`steel_facts`].
 const STEEL: [&str; 3] = [
     "enough though not in whole mm2",
@@ -81,12 +135,6 @@ fn steel_facts(section: &Section) -> [bool; STEEL.len()] {
         section.is_even(),
         section.is_hundredth_short(),
     ]
-}
-
-fn count_steel(counts: &mut [u64; STEEL.len()], section: &Section) {
-    for (count, fact) in counts.iter_mut().zip(steel_facts(section)) {
-        *count += u64::from(fact);
-    }
 }
 
 fn place_of(bearing: &Bearing) -> usize {
@@ -134,25 +182,44 @@ impl Tally {
             *count += u64::from(wall.failures >> bit & 1);
         }
         if let Some(toe) = &wall.toe {
-            count_steel(&mut self.toe_steel, toe);
+            count_facts(&mut self.toe_steel, steel_facts(toe));
         }
-        count_steel(&mut self.stem_steel, &wall.stem);
+        count_facts(&mut self.stem_steel, steel_facts(&wall.stem));
+        if let Some(heel) = &wall.heel {
+            count_facts(&mut self.heel_steel, steel_facts(heel));
+            count_facts(&mut self.heel_facts, heel_facts(wall, heel));
+        }
     }
 
-    /// Of the walls of a job whose toe is checked.
+    /// Of the walls of a job: what is under a toe that is checked, and under a heel.
     pub fn count_tips(&mut self, walls: &[Wall], worked: &[Worked]) {
         for (wall, worked) in walls.iter().zip(worked) {
             let bearing = worked.factored_bearing.given();
-            let Some(bearing) = bearing.filter(|_| worked.toe.is_some()) else {
-                continue;
-            };
-            let tips = match bearing.block.kind {
-                Contact::HeelTriangle => &mut self.heel_tips,
-                _ => &mut self.toe_tips,
-            };
-            if let Some(tip) = Tip::of(wall, bearing) {
-                count(tips, tip as usize);
+            if let Some(bearing) = bearing.filter(|_| worked.toe.is_some()) {
+                self.count_under_toe(wall, bearing);
             }
+            match bearing.filter(|_| worked.heel.is_some()) {
+                Some(bearing) => self.count_under_heel(wall, bearing),
+                None => count(&mut self.heels_left_out, usize::from(wall.heel > 0)),
+            }
+        }
+    }
+
+    fn count_under_toe(&mut self, wall: &Wall, bearing: &Reported) {
+        let tips = match bearing.block.kind {
+            Contact::HeelTriangle => &mut self.heel_tips,
+            _ => &mut self.toe_tips,
+        };
+        if let Some(tip) = Tip::of(wall, bearing) {
+            count(tips, tip as usize);
+        }
+    }
+
+    fn count_under_heel(&mut self, wall: &Wall, bearing: &Reported) {
+        match (bearing.block.kind, Reach::of(wall, bearing)) {
+            (Contact::ToeTriangle, Some(reach)) => count(&mut self.toe_reaches, reach as usize),
+            (Contact::HeelTriangle, Some(reach)) => count(&mut self.heel_reaches, reach as usize),
+            (_, at_end) => count(&mut self.under_heels, usize::from(at_end.is_some())),
         }
     }
 
@@ -214,6 +281,12 @@ impl Tally {
         add(&mut self.heel_tips, &other.heel_tips);
         add(&mut self.toe_steel, &other.toe_steel);
         add(&mut self.stem_steel, &other.stem_steel);
+        add(&mut self.heel_steel, &other.heel_steel);
+        add(&mut self.under_heels, &other.under_heels);
+        add(&mut self.toe_reaches, &other.toe_reaches);
+        add(&mut self.heel_reaches, &other.heel_reaches);
+        add(&mut self.heels_left_out, &other.heels_left_out);
+        add(&mut self.heel_facts, &other.heel_facts);
     }
 }
 
@@ -233,7 +306,7 @@ fn named(names: &[&str], counts: &[u64]) -> String {
     words.join(", ")
 }
 
-fn bits(counts: &[u64; 8]) -> String {
+fn bits(counts: &[u64; 9]) -> String {
     let pairs = counts.iter().enumerate();
     let words: Vec<String> = pairs.map(|(bit, n)| format!("{}: {n}", 1 << bit)).collect();
     words.join(", ")
@@ -278,7 +351,7 @@ impl Tally {
         ]
     }
 
-    fn rows_of_walls(&self) -> [Row; 7] {
+    fn rows_of_walls(&self) -> [Row; 13] {
         [
             ("service block, in walls", named(&BLOCKS, &self.service)),
             ("factored block, in walls", named(&BLOCKS, &self.factored)),
@@ -286,6 +359,21 @@ impl Tally {
             ("heel block's start, in toes", named(&TIPS, &self.heel_tips)),
             ("toe steel, in toes", named(&STEEL, &self.toe_steel)),
             ("stem steel, in walls", named(&STEEL, &self.stem_steel)),
+            ("heel steel, in heels", named(&STEEL, &self.heel_steel)),
+            ("full block, in heels", named(&FULL, &self.under_heels)),
+            (
+                "toe block's end, in heels",
+                named(&REACHES, &self.toe_reaches),
+            ),
+            (
+                "heel block's start, in heels",
+                named(&REACHES, &self.heel_reaches),
+            ),
+            (
+                "heel not checked, in walls",
+                named(&LEFT_OUT, &self.heels_left_out),
+            ),
+            ("heel, in heels", named(&HEEL_FACTS, &self.heel_facts)),
             ("bits set, in walls", bits(&self.bits)),
         ]
     }
@@ -295,9 +383,11 @@ impl Tally {
 impl fmt::Display for Tally {
     fn fmt(&self, out: &mut fmt::Formatter<'_>) -> fmt::Result {
         writeln!(out, "| | |\n|---|---|")?;
-        let rows = [self.rows_of_calls(), self.rows_of_walls()];
-        rows.iter()
-            .flatten()
+        let calls = self.rows_of_calls();
+        let walls = self.rows_of_walls();
+        calls
+            .iter()
+            .chain(&walls)
             .try_for_each(|(name, words)| writeln!(out, "| {name} | {words} |"))
     }
 }

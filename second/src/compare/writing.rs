@@ -198,7 +198,7 @@ mod tests {
             Second.drawing(job, wall, out)
         }
 
-        fn has_failed(&self, failures: u8, check: u8) -> bool {
+        fn has_failed(&self, failures: u16, check: u16) -> bool {
             Second.has_failed(failures, check)
         }
 

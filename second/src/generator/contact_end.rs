@@ -92,21 +92,8 @@ impl Tried {
         wished.then_some(joined)
     }
 
-    /// Brings the factored M6 down until the tip is at its place, or a step short of
-    /// it or past it. From the toe it is M6 / 2R, of a heel triangle (M6 - 4Rl) / 2R.
     fn brought(&self, landing: Landing) -> Option<Draft> {
-        let job = self.draft.job();
-        let total = factored_totals(&job.walls[0], &job.loads);
-        let four_l = match self.kind {
-            HeelTriangle => 4 * job.walls[0].base_length(),
-            _ => 0,
-        };
-        let goal = total.r * (four_l + Whole::from(self.twice_tip));
-        // A N mm of dead load takes 84 tenths of sixths, of live load 96.
-        let steps = landing.steps(total.m6 - goal, 12)?;
-        let mut tuned = self.draft.clone();
-        push_across(&mut tuned, 0, self.height, steps)?;
-        Some(tuned)
+        bring_tip(&self.draft, self.kind, self.twice_tip, self.height, landing)
     }
 
     fn has_tip(&self, tuned: &Draft, tip: Tip) -> bool {
@@ -132,6 +119,30 @@ impl Tried {
             _ => sheared && bent,
         }
     }
+}
+
+/// Brings the factored M6 down, by loads at a height, until the tip of a triangle is at
+/// its place, or a step short of it or past it. From the toe it is M6 / 2R, of a heel
+/// triangle (M6 - 4Rl) / 2R.
+pub fn bring_tip(
+    draft: &Draft,
+    kind: Contact,
+    twice_tip: u32,
+    height: u32,
+    landing: Landing,
+) -> Option<Draft> {
+    let job = draft.job();
+    let total = factored_totals(&job.walls[0], &job.loads);
+    let four_l = match kind {
+        HeelTriangle => 4 * job.walls[0].base_length(),
+        _ => 0,
+    };
+    let goal = total.r * (four_l + Whole::from(twice_tip));
+    // A N mm of dead load takes 84 tenths of sixths, of live load 96.
+    let steps = landing.steps(total.m6 - goal, 12)?;
+    let mut tuned = draft.clone();
+    push_across(&mut tuned, 0, height, steps)?;
+    Some(tuned)
 }
 
 /// A wall with the loads down that its triangle needs. For one at the heel the stem

@@ -141,12 +141,17 @@ const TYPICAL: [(u32, u32); WALL_FIELDS] = [
     (100, 300),
     (350, 900),
     (350, 900),
+    (30, 75),
+    (0, 0),
+    (100, 300),
+    (350, 900),
 ];
 
 pub fn typical_wall(random: &mut Random) -> RawWall {
     let mut wall: RawWall = std::array::from_fn(|i| random.between(TYPICAL[i].0, TYPICAL[i].1));
     wall[field::TOE_BAR] = random.pick(&BARS[2..7]);
     wall[field::STEM_BAR] = random.pick(&BARS[2..7]);
+    wall[field::HEEL_BAR] = random.pick(&BARS[2..7]);
     wall[field::WATER_HEIGHT] = match random.below(3) {
         0 => 0,
         1 => random.between(1, wall[field::BASE_THICKNESS]),

@@ -3,7 +3,7 @@
 use super::draft::{crest, load_at, typical_wall, Draft, Place, ACROSS, DOWN};
 use super::{Due, Sample};
 use crate::forces::{factored_totals, service_totals};
-use crate::job_file::{field, RawWall, BARS, MOST_LOAD, MOST_LOADS_A_WALL};
+use crate::job_file::{field, RawLoad, RawWall, BARS, MOST_LOAD, MOST_LOADS_A_WALL};
 use crate::random::Random;
 use crate::section::{provided_steel, Section};
 use crate::sheet_line::{work_wall, Worked};
@@ -41,12 +41,12 @@ const EDGES: [Edge; 34] = [
     |r| sliding(r, 0),
     |r| sliding(r, 1),
     allowable,
-    |r| steel(r, true, 0),
-    |r| steel(r, true, 1),
-    |r| steel(r, false, 0),
-    |r| steel(r, false, 1),
-    |r| shear(r, true),
-    |r| shear(r, false),
+    |r| steel(r, Part::Toe, 0),
+    |r| steel(r, Part::Toe, 1),
+    |r| steel(r, Part::Stem, 0),
+    |r| steel(r, Part::Stem, 1),
+    |r| shear(r, Part::Toe),
+    |r| shear(r, Part::Stem),
     |r| stem_shear_of_concrete(r, 0),
     |r| stem_shear_of_concrete(r, 1),
 ];
@@ -231,13 +231,81 @@ fn allowable(random: &mut Random) -> Option<Draft> {
     })
 }
 
-/// Provided steel equal to the required, or `short` hundredths of mm2 less, in toe or
-/// stem.
-fn steel(random: &mut Random, toe: bool, short: Whole) -> Option<Draft> {
+/// A part of a wall that has a cage.
+#[derive(Clone, Copy, Debug, PartialEq, Eq)]
+pub enum Part {
+    Toe,
+    Stem,
+    Heel,
+}
+
+impl Part {
+    /// The part of a draft's only wall; `None` where it isn't checked.
+    pub fn section(self, draft: &Draft) -> Option<Section> {
+        let worked = worked(draft);
+        match self {
+            Part::Toe => worked.toe,
+            Part::Stem => Some(worked.stem),
+            Part::Heel => worked.heel,
+        }
+    }
+
+    /// The fields of its thickness, bar, spacing and shear stress.
+    pub fn thickness(self) -> usize {
+        match self {
+            Part::Stem => field::STEM_THICKNESS,
+            Part::Toe | Part::Heel => field::BASE_THICKNESS,
+        }
+    }
+
+    pub fn bar(self) -> usize {
+        match self {
+            Part::Toe => field::TOE_BAR,
+            Part::Stem => field::STEM_BAR,
+            Part::Heel => field::HEEL_BAR,
+        }
+    }
+
+    pub fn spacing(self) -> usize {
+        match self {
+            Part::Toe => field::TOE_SPACING,
+            Part::Stem => field::STEM_SPACING,
+            Part::Heel => field::HEEL_SPACING,
+        }
+    }
+
+    fn stress(self) -> usize {
+        match self {
+            Part::Toe => field::TOE_SHEAR_STRESS,
+            Part::Stem => field::STEM_SHEAR_STRESS,
+            Part::Heel => field::HEEL_SHEAR_STRESS,
+        }
+    }
+
+    /// A load of nothing yet that moves its moment: on the end of the toe, or across at
+    /// the crest, which takes the bearing away from a heel.
+    fn bending(self, wall: &RawWall) -> RawLoad {
+        match self {
+            Part::Toe => [1, DOWN, 0, 0, 0],
+            Part::Stem | Part::Heel => [1, ACROSS, crest(wall), 0, 0],
+        }
+    }
+
+    /// One that moves its shear.
+    fn shearing(self, wall: &RawWall) -> RawLoad {
+        match self {
+            Part::Toe => [1, DOWN, 0, 0, 0],
+            Part::Stem => [1, ACROSS, wall[field::BASE_THICKNESS], 0, 0],
+            Part::Heel => [1, ACROSS, crest(wall), 0, 0],
+        }
+    }
+}
+
+/// Provided steel equal to the required, or `short` hundredths of mm2 less.
+fn steel(random: &mut Random, part: Part, short: Whole) -> Option<Draft> {
     let mut wall = typical_wall(random);
-    let place = if toe { field::TOE_BAR } else { field::STEM_BAR };
-    wall[place] = random.pick(&BARS);
-    tune_cage(&wall, toe, |section| {
+    wall[part.bar()] = random.pick(&BARS);
+    tune_cage(&wall, part, |section| {
         section.provided == section.required - short
     })
 }
@@ -245,38 +313,23 @@ fn steel(random: &mut Random, toe: bool, short: Whole) -> Option<Draft> {
 /// Loads tried until a cage fits, N/m live.
 const CAGE_LOADS: u32 = 2000;
 
-/// The wall with a load and a spacing for which the cage of its toe or of its stem is as
-/// wished. It is the load that moves the required steel, by some hundredths of mm2 at a
-/// time, so the needed steel must govern.
-pub fn tune_cage(wall: &RawWall, toe: bool, wished: impl Fn(&Section) -> bool) -> Option<Draft> {
+/// The wall with a load and a spacing for which the cage of a part is as wished. It is
+/// the load that moves the required steel, by some hundredths of mm2 at a time, so the
+/// needed steel must govern.
+pub fn tune_cage(wall: &RawWall, part: Part, wished: impl Fn(&Section) -> bool) -> Option<Draft> {
     let mut draft = Draft::of(*wall);
-    let (bar, spacing, load) = if toe {
-        (field::TOE_BAR, field::TOE_SPACING, [1, DOWN, 0, 0, 0])
-    } else {
-        let load = [1, ACROSS, crest(wall), 0, 0];
-        (field::STEM_BAR, field::STEM_SPACING, load)
-    };
-    part_of(&draft, toe).filter(|bare| bare.needed > bare.least)?;
-    draft.loads.push(load);
+    let bare = part.section(&draft);
+    bare.filter(|bare| bare.needed > bare.least)?;
+    draft.loads.push(part.bending(wall));
     (0..CAGE_LOADS).find_map(|live| {
         draft.loads[0][4] = live;
-        let required = part_of(&draft, toe)?.required;
-        let mut fitting = spacings_for(wall[bar], required);
+        let required = part.section(&draft)?.required;
+        let mut fitting = spacings_for(wall[part.bar()], required);
         fitting.find_map(|distance| {
-            draft.walls[0][spacing] = distance;
-            wished(&part_of(&draft, toe)?).then(|| draft.clone())
+            draft.walls[0][part.spacing()] = distance;
+            wished(&part.section(&draft)?).then(|| draft.clone())
         })
     })
-}
-
-/// The toe or the stem of a draft's only wall; `None` where there is no toe to check.
-pub fn part_of(draft: &Draft, toe: bool) -> Option<Section> {
-    let worked = worked(draft);
-    if toe {
-        worked.toe
-    } else {
-        Some(worked.stem)
-    }
 }
 
 /// The greatest spacing at which a bar gives so much steel, in hundredths of mm2, and
@@ -291,24 +344,15 @@ fn spacings_for(bar: u32, steel: Whole) -> impl Iterator<Item = u32> {
 }
 
 /// A stress of concrete that 2V / D equals: it fails, as that limit is strict.
-fn shear(random: &mut Random, toe: bool) -> Option<Draft> {
-    let mut draft = Draft::of(typical_wall(random));
-    let base = draft.walls[0][field::BASE_THICKNESS];
-    draft.loads.push(if toe {
-        [1, DOWN, 0, 0, 0]
-    } else {
-        [1, ACROSS, base, 0, 0]
-    });
+pub fn shear(random: &mut Random, part: Part) -> Option<Draft> {
+    let wall = typical_wall(random);
+    let mut draft = Draft::of(wall);
+    draft.loads.push(part.shearing(&wall));
     (0..2000).find_map(|live| {
         draft.loads[0][4] = live;
-        let stress = whole_stress(&part_of(&draft, toe)?)?;
+        let stress = whole_stress(&part.section(&draft)?)?;
         let mut tuned = draft.clone();
-        let place = if toe {
-            field::TOE_SHEAR_STRESS
-        } else {
-            field::STEM_SHEAR_STRESS
-        };
-        tuned.walls[0][place] = stress;
+        tuned.walls[0][part.stress()] = stress;
         Some(tuned)
     })
 }

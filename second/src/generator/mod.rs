@@ -3,6 +3,7 @@
 mod contact_end;
 pub mod draft;
 mod edges;
+mod heel;
 mod lever_arm;
 mod raw;
 mod refused;
@@ -35,7 +36,7 @@ pub type Maker = fn(&mut Random, usize) -> Sample;
 
 /// A kind's place is part of its seed, so that a new one comes last and leaves the
 /// jobs of the others as they were.
-pub const KINDS: [(&str, Maker); 31] = [
+pub const KINDS: [(&str, Maker); 32] = [
     ("typical", valid::typical),
     ("wide", valid::wide),
     ("field-ends", valid::field_ends),
@@ -67,6 +68,7 @@ pub const KINDS: [(&str, Maker); 31] = [
     ("lever-arm", lever_arm::lever_arm),
     ("contact-end", contact_end::contact_end),
     ("steel-hundredth", steel_hundredth::steel_hundredth),
+    ("heel", heel::heel),
 ];
 
 /// The sample of a seed, a place in [`KINDS`] and an index from 0.

@@ -35,17 +35,17 @@ pub fn raw(random: &mut Random, index: usize) -> Sample {
         1 => random.bytes(1),
         2 => random.bytes(11),
         3 => random.bytes(12),
-        4 => vec![1, 0, 1, 0, 12, 0, 0, 0, 136, 0, 136, 0],
+        4 => vec![1, 0, 1, 0, 12, 0, 0, 0, 152, 0, 152, 0],
         5 => {
             let count = 13 + random.below(400);
             random.bytes(count)
         }
-        6 => random.bytes(65_536 + 136),
+        6 => random.bytes(65_536 + 152),
         7 => longer(random, 65_536),
         8 => {
             // A right header, then noise.
-            let mut bytes = vec![1, 0, 1, 0, 12, 0, 0, 0, 136, 0, 136, 0];
-            bytes.extend(random.bytes(124));
+            let mut bytes = vec![1, 0, 1, 0, 12, 0, 0, 0, 152, 0, 152, 0];
+            bytes.extend(random.bytes(140));
             bytes
         }
         _ => longer(random, 200_000),

@@ -1,15 +1,16 @@
 //! Jobs looked for until they touch what is wanted: each kind of block, each
 //! failure set and clear, and the turns of the toe and stem rules.
 
-use super::draft::{any_load, typical_wall, wide_wall, Draft};
+use super::draft::{any_load, crest, typical_wall, wide_wall, Draft, DOWN};
 use super::{Due, Sample};
+use crate::job_file::field;
 use crate::random::Random;
 use crate::traits::of_job;
 
 /// Candidates looked at before the last one is taken as it is.
 const MOST_TRIES: usize = 3000;
 
-fn candidate(random: &mut Random) -> Draft {
+pub fn candidate(random: &mut Random) -> Draft {
     let wall = if random.once_in(2) {
         wide_wall(random)
     } else {
@@ -25,6 +26,11 @@ fn candidate(random: &mut Random) -> Draft {
 
 /// A job that touches all the words wanted, if one turns up.
 fn seek(random: &mut Random, wanted: &[&str]) -> Sample {
+    seek_among(random, candidate, wanted)
+}
+
+/// The same among candidates of another kind.
+fn seek_among(random: &mut Random, candidate: fn(&mut Random) -> Draft, wanted: &[&str]) -> Sample {
     let mut draft = candidate(random);
     for _ in 0..MOST_TRIES {
         let words = of_job(&draft.job());
@@ -68,7 +74,7 @@ pub fn block_pairs(random: &mut Random, index: usize) -> Sample {
     seek(random, &[SERVICE[index % 5], FACTORED[index / 5 % 5]])
 }
 
-const BITS: [&str; 16] = [
+const BITS: [&str; 18] = [
     "bit-1-set",
     "bit-1-clear",
     "bit-2-set",
@@ -85,12 +91,14 @@ const BITS: [&str; 16] = [
     "bit-64-clear",
     "bit-128-set",
     "bit-128-clear",
+    "bit-256-set",
+    "bit-256-clear",
 ];
 
 /// Each bit in turn, set and clear; the later rounds ask for two at once.
 pub fn failure_bits(random: &mut Random, index: usize) -> Sample {
-    let first = BITS[index % 16];
-    if index < 16 {
+    let first = BITS[index % BITS.len()];
+    if index < BITS.len() {
         seek(random, &[first])
     } else {
         let second = random.pick(&BITS);
@@ -118,5 +126,21 @@ const TURNS: [&str; 16] = [
 ];
 
 pub fn toe_and_stem(random: &mut Random, index: usize) -> Sample {
-    seek(random, &[TURNS[index % TURNS.len()]])
+    match TURNS[index % TURNS.len()] {
+        rare @ "toe-shear-fcu-fails" => seek_among(random, with_thin_base, &[rare]),
+        word => seek(random, &[word]),
+    }
+}
+
+/// A thin base of weak concrete, the toe's stress no limit.
+fn with_thin_base(random: &mut Random) -> Draft {
+    let mut draft = candidate(random);
+    let wall = &mut draft.walls[0];
+    wall[field::FCU] = random.between(20, 30);
+    wall[field::TOE_SHEAR_STRESS] = 5000;
+    wall[field::BASE_THICKNESS] = random.between(200, 300);
+    let top = crest(wall);
+    wall[field::WATER_HEIGHT] = wall[field::WATER_HEIGHT].min(top);
+    draft.loads.retain(|load| load[1] == DOWN || load[2] <= top);
+    draft
 }

@@ -2,7 +2,7 @@
 //! is just what is required, a hundredth short of it, or enough though not in whole mm2.
 
 use super::draft::{crest, ends, typical_wall, wide_wall, Draft};
-use super::edges::{part_of, tune_cage, worked, MOST_TRIES};
+use super::edges::{tune_cage, worked, Part, MOST_TRIES};
 use super::lever_arm::{little_least_steel, push_stem};
 use super::{Due, Sample};
 use crate::job_file::{field, RawWall, BARS};
@@ -17,15 +17,15 @@ const TURNS: [Turn; 13] = [
     |r| stem(r, Cage::Even),
     |r| stem(r, Cage::Short),
     |r| stem(r, Cage::FailedInMm2),
-    |r| by_least(r, STEM, Cage::Even),
-    |r| by_least(r, STEM, Cage::Short),
-    |r| by_least(r, STEM, Cage::FailedInMm2),
-    |r| toe(r, Cage::Even),
-    |r| toe(r, Cage::Short),
-    |r| toe(r, Cage::FailedInMm2),
-    |r| by_least(r, TOE, Cage::Even),
-    |r| by_least(r, TOE, Cage::Short),
-    |r| by_least(r, TOE, Cage::FailedInMm2),
+    |r| by_least(r, Part::Stem, Cage::Even),
+    |r| by_least(r, Part::Stem, Cage::Short),
+    |r| by_least(r, Part::Stem, Cage::FailedInMm2),
+    |r| by_load(r, Part::Toe, Cage::Even),
+    |r| by_load(r, Part::Toe, Cage::Short),
+    |r| by_load(r, Part::Toe, Cage::FailedInMm2),
+    |r| by_least(r, Part::Toe, Cage::Even),
+    |r| by_least(r, Part::Toe, Cage::Short),
+    |r| by_least(r, Part::Toe, Cage::FailedInMm2),
     exact_stem,
 ];
 
@@ -42,7 +42,7 @@ pub fn steel_hundredth(random: &mut Random, index: usize) -> Sample {
 
 /// What a cage is to be.
 #[derive(Clone, Copy, PartialEq, Eq)]
-enum Cage {
+pub enum Cage {
     /// Just what is required.
     Even,
     /// A hundredth of a mm2 less.
@@ -61,28 +61,6 @@ impl Cage {
     }
 }
 
-/// The fields of a part's thickness, bar and spacing.
-struct Part {
-    is_toe: bool,
-    thickness: usize,
-    bar: usize,
-    spacing: usize,
-}
-
-const TOE: Part = Part {
-    is_toe: true,
-    thickness: field::BASE_THICKNESS,
-    bar: field::TOE_BAR,
-    spacing: field::TOE_SPACING,
-};
-
-const STEM: Part = Part {
-    is_toe: false,
-    thickness: field::STEM_THICKNESS,
-    bar: field::STEM_BAR,
-    spacing: field::STEM_SPACING,
-};
-
 fn any_wall(random: &mut Random) -> RawWall {
     if random.once_in(2) {
         wide_wall(random)
@@ -92,20 +70,21 @@ fn any_wall(random: &mut Random) -> RawWall {
 }
 
 /// Any bar at any spacing.
-fn set_cage(random: &mut Random, wall: &mut RawWall, part: &Part) {
-    let (least, most) = ends(wall, part.spacing);
-    wall[part.bar] = random.pick(&BARS);
-    wall[part.spacing] = random.between(least, most);
+fn set_cage(random: &mut Random, wall: &mut RawWall, part: Part) {
+    let (least, most) = ends(wall, part.spacing());
+    wall[part.bar()] = random.pick(&BARS);
+    wall[part.spacing()] = random.between(least, most);
 }
 
-fn provided(wall: &RawWall, part: &Part) -> Whole {
-    provided_steel(Whole::from(wall[part.bar]), Whole::from(wall[part.spacing]))
+fn provided(wall: &RawWall, part: Part) -> Whole {
+    let (bar, spacing) = (wall[part.bar()], wall[part.spacing()]);
+    provided_steel(Whole::from(bar), Whole::from(spacing))
 }
 
 /// A stem with any cage, for which the least steel is little.
 fn wall_with_cage(random: &mut Random) -> RawWall {
     let mut wall = any_wall(random);
-    set_cage(random, &mut wall, &STEM);
+    set_cage(random, &mut wall, Part::Stem);
     wall[field::LEAST_STEEL] = little_least_steel(random);
     wall
 }
@@ -113,7 +92,7 @@ fn wall_with_cage(random: &mut Random) -> RawWall {
 /// Loads across that bring the stem's moment to the last one that its steel bears, or
 /// to a N mm more; or to one that it bears by less than a mm2 of steel.
 fn stem_by_moment(random: &mut Random, wall: RawWall, cage: Cage) -> Option<Draft> {
-    let most = provided(&wall, &STEM);
+    let most = provided(&wall, Part::Stem);
     let borne = match cage {
         Cage::FailedInMm2 => Whole::from(random.between(whole_mm2(most) as u32, most as u32)),
         _ => most,
@@ -170,25 +149,27 @@ fn last_moment(wall: &RawWall, d: Whole, steel: Whole) -> Option<Whole> {
     Some(last)
 }
 
-/// A load on the end of the toe and a spacing, for which the needed steel governs.
-fn toe(random: &mut Random, cage: Cage) -> Option<Draft> {
+/// A load and a spacing for which the needed steel of a toe or of a heel governs.
+pub fn by_load(random: &mut Random, part: Part, cage: Cage) -> Option<Draft> {
     let mut wall = typical_wall(random);
-    set_cage(random, &mut wall, &TOE);
+    set_cage(random, &mut wall, part);
     wall[field::LEAST_STEEL] = little_least_steel(random);
-    let wished = |toe: &Section| toe.needed > toe.least && cage.is(toe);
-    tune_cage(&wall, TOE.is_toe, wished)
+    let wished = |section: &Section| section.needed > section.least && cage.is(section);
+    tune_cage(&wall, part, wished)
 }
 
 /// A percentage and a thickness for which the least steel governs and is what it is to
 /// be beside the cage.
-fn by_least(random: &mut Random, part: Part, cage: Cage) -> Option<Draft> {
+pub fn by_least(random: &mut Random, part: Part, cage: Cage) -> Option<Draft> {
     let mut wall = any_wall(random);
-    set_cage(random, &mut wall, &part);
-    let least = wished_least(provided(&wall, &part), cage)?;
-    (wall[field::LEAST_STEEL], wall[part.thickness]) = factors(random, &wall, &part, least)?;
+    set_cage(random, &mut wall, part);
+    let least = wished_least(provided(&wall, part), cage)?;
+    let (percentage, thickness) = factors(random, &wall, part, least)?;
+    wall[field::LEAST_STEEL] = percentage;
+    wall[part.thickness()] = thickness;
     wall[field::WATER_HEIGHT] = wall[field::WATER_HEIGHT].min(crest(&wall));
     let draft = Draft::of(wall);
-    let section = part_of(&draft, part.is_toe)?;
+    let section = part.section(&draft)?;
     (section.needed <= section.least && cage.is(&section)).then_some(draft)
 }
 
@@ -203,9 +184,9 @@ fn wished_least(provided: Whole, cage: Cage) -> Option<Whole> {
 }
 
 /// A percentage, in hundredths, and a thickness that come to so much steel.
-fn factors(random: &mut Random, wall: &RawWall, part: &Part, least: Whole) -> Option<(u32, u32)> {
+fn factors(random: &mut Random, wall: &RawWall, part: Part, least: Whole) -> Option<(u32, u32)> {
     let product = (least / 10) as u32;
-    let (thinnest, thickest) = ends(wall, part.thickness);
+    let (thinnest, thickest) = ends(wall, part.thickness());
     let (_, most) = ends(wall, field::LEAST_STEEL);
     let fitting: Vec<(u32, u32)> = (1..=most)
         .filter(|percentage| product.is_multiple_of(*percentage))

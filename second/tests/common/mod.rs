@@ -11,18 +11,17 @@ use second::Whole;
 
 pub const SEED: u64 = 20;
 
-/// Case A of document 01, "The sheet line", field by field.
+/// Case A of document 01, "The sheet line", field by field; its heel has the stem's cage.
 pub const CASE_A: RawWall = [
     0, 3000, 300, 500, 1500, 300, 0, 0, 0, 2400, 2400, 1800, 2000, 1800, 333, 500, 3000, 500, 150,
-    1000, 35, 500, 13, 40, 12, 200, 40, 16, 150, 550, 550,
+    1000, 35, 500, 13, 40, 12, 200, 40, 16, 150, 550, 550, 40, 16, 150, 550,
 ];
 
-pub const CASE_A_LINE: &str =
-    "1 00 134160 43627 0 767102100 88312 28349 173078 0 71688 30840740 39000 80700 92700000 89165\n";
+pub const CASE_A_LINE: &str = "1 000 134160 43627 0 767102100 88312 28349 173078 0 71688 30840740 39000 80700 92700000 89165 75042 88187024 84824\n";
 
-/// Lowest and highest values, as document 01 prints them, field by field; of the
+/// Lowest and highest values, as documents 01 and 02 print them, field by field; of the
 /// water as far as case A's heights let it.
-pub const ENDS: [(u32, u32); 31] = [
+pub const ENDS: [(u32, u32); 35] = [
     (0, 1),
     (500, 8000),
     (200, 1500),
@@ -54,14 +53,19 @@ pub const ENDS: [(u32, u32); 31] = [
     (50, 500),
     (1, 5000),
     (1, 5000),
+    (20, 75),
+    (8, 40),
+    (50, 500),
+    (1, 5000),
 ];
 
-/// The 136 bytes of case A, from the header document 01 prints.
+/// The 152 bytes of case A, from the header document 01 prints with request #103's
+/// offset and length.
 pub fn case_a_bytes() -> Vec<u8> {
-    let header: [u16; 6] = [1, 1, 12, 0, 136, 136];
+    let header: [u16; 6] = [1, 1, 12, 0, 152, 152];
     let mut bytes: Vec<u8> = header.iter().flat_map(|n| n.to_le_bytes()).collect();
     bytes.extend(CASE_A.iter().flat_map(|n| n.to_le_bytes()));
-    assert_eq!(bytes.len(), 136);
+    assert_eq!(bytes.len(), 152);
     bytes
 }
 

@@ -5,14 +5,14 @@ use Rattle.rules.specs.SheetLine.{failsBy, bitsAmong, failuresBy}
 use Rattle.checks.proofs.failures_of.Statement.{statement}
 use Rattle.checks.proofs.failures_of.Tie as tie
 
--- where every check is set, the tests lie eight steps back
-abbrev tests : tie.After-with-check8 → tie.After-is-sheared
-tests c = c .before .before .before .before .before .before .before .before
+-- where every check is set, the first lies eight steps back, and the tests before it
+abbrev first : tie.After-with-check9 → tie.After-with-check
+first c = c .before .before .before .before .before .before .before .before
 
 returns : tie.Need-returns
 unfolding failuresBy bitsAmong failsBy
 returns c =
-    let last = tests c in
+    let last = first c .before in
     rw (
       ← last .is-sheared .ensures,
       ← last .before .is-given2 .ensures,
@@ -20,10 +20,10 @@ returns c =
       ← last .before .before .before .is-over-allowable .ensures,
       ← last .before .before .before .before .overturns .ensures,
     )
-    (omega arith)
+    (omega (arith, first c .with-check .ensures))
 
 pub failures-of-spec : {M : Type 1} → statement M
 failures-of-spec =
     tie.close (tie.spec (λ c κs. search needs) (λ c κs. search needs) (λ c κs. search needs) (λ c κs. search needs) (λ c κs. search needs)
     (λ c κs. search needs) (λ c κs. search needs) (λ c κs. search needs) (λ c κs. search needs) (λ c κs. search needs) (λ c κs. search needs)
-    (λ c κs. search needs) (λ c κs. search needs) returns)
+    (λ c κs. search needs) (λ c κs. search needs) (λ c κs. search needs) returns)

@@ -11,7 +11,7 @@ use Rattle.checks.proofs.with_check.Tie as tie
 returns : tie.Need-returns
 returns c =
     let h : c .before .before .args .failures < 2 ^ c .shift-of .result = omega arith in
-    rw (shl-exact 1 (c .shift-of .result) 8 (lit< tt) (omega arith), or-shifted-r 1 (c .shift-of .result) _ h, c .before .if1 .taken) (omega arith)
+    rw (shl-exact 1 (c .shift-of .result) 16 (lit< tt) (omega arith), or-shifted-r 1 (c .shift-of .result) _ h, c .before .if1 .taken) (omega arith)
 
 returns-2 : tie.Need-returns-2
 returns-2 c = rw (c .if1 .left) (omega arith)

@@ -91,14 +91,15 @@ held-requires c κs =
 returns : tie.Need-returns
 unfolding workedForces slidingOf
 returns c =
-    let told = c .before .before .before in
+    let told = c .before .before .before .before in
     let sums = told .before .before in
     let second = sums .before in
     let first = second .before in
     let H = toZ-ofZ w64 (first .totals-by .result .H) (search needs) in
     rw (
-      c .stem-action .ensures,
-      c .before .held .ensures,
+      c .fill-on-heel .ensures,
+      c .before .stem-action .ensures,
+      c .before .before .held .ensures,
       toZ-ofZ w64 _ (sub-held told) ∙ lasting-is sums,
       H,
       service-is first,
@@ -112,4 +113,5 @@ worked-spec =
     (λ c κs. let start = c .before .before .before .before in (start .pre, omega (arith, wall-within _ (fitted start .wall-fits))))
     (λ c κs. (active-small c, all-light tt)) (λ c κs. (rest-small (c .before), all-light tt))
     (λ c κs. (omega arith, active-small (c .before .before), light tt)) sub-held held-requires
-    (λ c κs. let d = tables (c .before .before .before .before) in (begin d .pre, sorts-are d)) returns)
+    (λ c κs. let d = tables (c .before .before .before .before) in (begin d .pre, sorts-are d))
+    (λ c κs. fitted (begin (tables (c .before .before .before .before .before))) .wall-fits) returns)

@@ -20,6 +20,7 @@ office-has-failed-spec =
     (λ c κs. search needs)
     (λ c κs. search needs)
     (λ c κs. search needs)
+    (λ c κs. search needs)
     (λ c. rw (c .before .match .keys1) (c .has-failed .ensures))
     (λ c. rw (c .before .match .keys2) (c .has-failed2 .ensures))
     (λ c. rw (c .before .match .keys3) (c .has-failed3 .ensures))
@@ -28,4 +29,5 @@ office-has-failed-spec =
     (λ c. rw (c .before .match .keys6) (c .has-failed6 .ensures))
     (λ c. rw (c .before .match .keys7) (c .has-failed7 .ensures))
     (λ c. rw (c .before .match .keys8) (c .has-failed8 .ensures))
+    (λ c. rw (c .before .match .keys9) (c .has-failed9 .ensures))
     (λ c. sym (no-check (c .before .args .failures) (c .before .args .check) checks (search needs))))

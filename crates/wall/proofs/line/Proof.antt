@@ -8,7 +8,7 @@ use Rattle.rules.specs.SheetLine.{numbersBy, line}
 use Rattle.rules.specs.Beyond.{fits}
 use Rattle.rules.proofs.Examined.{Fit, fit}
 use Rattle.rules.proofs.Lines.{line-small}
-use Rattle.wall.proofs.Answers.{bears-toe, worked-is, tells, line-worked, line-refused}
+use Rattle.wall.proofs.Answers.{bears, fills, worked-is, tells, line-worked, line-refused}
 use Rattle.wall.proofs.line.Statement.{statement}
 use Rattle.wall.proofs.line.Tie as tie
 
@@ -28,7 +28,7 @@ fitted : (c : tie.Else1) → let start = c .before .before .before .before in Fi
 fitted c = fit _ _ (rw (accepted c) tt)
 
 worked-requires : tie.Need-worked-requires
-worked-requires c κs = let f = fitted c in (f .wall-fits, rw (c .before .before .before .blocks2 .ensures) (bears-toe _ _ f))
+worked-requires c κs = let f = fitted c in (f .wall-fits, rw (c .before .before .before .blocks2 .ensures) (bears _ _ f), rw (c .before .before .before .blocks2 .ensures) (fills _ _ f))
 
 -- the numbers of the wall that is worked are its line's
 numbers : (c : tie.After-worked) → let start = c .before .before .before .before .before in

@@ -21,7 +21,7 @@ read-back (z ∷ zs) all = cc (back z (omega (arith, all .0)), read-back zs (all
 -- the figures that are cast are small
 small : (c : tie.After-failures-of) → let w = c .before .args .worked in
     All Small (w .sliding .propping ∷ w .service .toe ∷ w .service .heel ∷ w .factored .toe ∷ w .factored .heel ∷ w .toe .action .shear
-    ∷ w .toe .action .moment ∷ w .toe .steel .required ∷ w .stem .action .shear ∷ w .stem .action .moment ∷ w .stem .steel .required ∷ [])
+    ∷ w .toe .action .moment ∷ w .toe .steel .required ∷ w .stem .action .shear ∷ w .stem .action .moment ∷ w .stem .steel .required ∷ w .heel .action .shear ∷ w .heel .action .moment ∷ w .heel .steel .required ∷ [])
 unfolding numbersBy
 small c = omega (arith, c .before .pre)
 
@@ -29,10 +29,14 @@ small c = omega (arith, c .before .pre)
 abbrev called : tie.After-struct-known6 → tie.After-failures-of
 called c = c .before .before .before .before .before .before
 
+-- and six more steps lie before the twelfth
+abbrev sixth : tie.After-struct-known12 → tie.After-struct-known6
+sixth c = c .before .before .before .before .before .before
+
 returns : tie.Need-returns
 unfolding numbersBy
 returns c =
-    let first = called (c .before .before .before .before .before .before) in
+    let first = called (sixth (c .before .before .before)) in
     rw (first .failures-of .ensures) (read-back _ (first .before .pre))
 
 pub numbers-of-spec : {M : Type 1} → statement M
@@ -42,4 +46,5 @@ numbers-of-spec =
     (λ c. omega (arith, small (c .before .before .before .before))) (λ c. omega (arith, small (c .before .before .before .before .before)))
     (λ c. omega (arith, small (called c))) (λ c. omega (arith, small (called (c .before)))) (λ c. omega (arith, small (called (c .before .before))))
     (λ c. omega (arith, small (called (c .before .before .before)))) (λ c. omega (arith, small (called (c .before .before .before .before))))
-    (λ c. omega (arith, small (called (c .before .before .before .before .before)))) returns)
+    (λ c. omega (arith, small (called (c .before .before .before .before .before)))) (λ c. omega (arith, small (called (sixth c))))
+    (λ c. omega (arith, small (called (sixth (c .before))))) (λ c. omega (arith, small (called (sixth (c .before .before))))) returns)

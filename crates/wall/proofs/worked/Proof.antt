@@ -6,7 +6,7 @@ use Rattle.wall.proofs.worked.Tie as tie
 
 returns : tie.Need-returns
 unfolding workedOver
-returns c = rw (c .stem-under .ensures, c .before .toe-over .ensures)
+returns c = rw (c .heel-over .ensures, c .before .stem-under .ensures, c .before .before .toe-over .ensures)
 
 pub worked-spec : {M : Type 1} → statement M
-worked-spec = tie.close (tie.spec (λ c κs. search needs) (λ c κs. search needs) returns)
+worked-spec = tie.close (tie.spec (λ c κs. search needs) (λ c κs. search needs) (λ c κs. search needs) returns)
