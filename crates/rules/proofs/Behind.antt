@@ -11,7 +11,7 @@ use native.Mathlib.Omega.{arith}
 use borrow.Author.Tests.{lt-ltb, le-ltb}
 use lib.Dec.{T, leb}
 use lib.IntN.{ℤ, pos, negsuc, _-ℤ_, _*ℤ_}
-use lib.Signed.{_≤ℤ_, _<ℤ_}
+use lib.Signed.{_<ℤ_}
 use Rattle.whole.specs.Parts.{aboveZero}
 use Rattle.whole.specs.Rounding.{roundedDown}
 use Rattle.whole.proofs.Integer.{pos-less, pos-≤ℤ, pos-<ℤ, ≤ℤ-or-<ℤ, Above, above, is-above}
@@ -24,7 +24,7 @@ use Rattle.rules.specs.declared.Block.{Block}
 use Rattle.rules.specs.declared.Totals.{Totals}
 use Rattle.rules.specs.JobFile.{Wall, Load, stemThickness, toeLength, heelLength, baseLength}
 use Rattle.rules.specs.Forces.{factored}
-use Rattle.rules.specs.Bearing.{_over_, overOne, plus, minus, times, lessThan, Same, carried, sixMoments, kindOf, noBlock, ofKind, blockOf, peak, greatestPeak, given, factoredScale, blockUnder, factoredBlock, isGiven, lengthBehind, behindBy, behind, carriedBehind, sixMomentsBehind}
+use Rattle.rules.specs.Bearing.{_over_, overOne, plus, times, lessThan, Same, kindOf, noBlock, ofKind, blockOf, peak, greatestPeak, given, factoredScale, blockUnder, factoredBlock, isGiven, lengthBehind, behindBy, behind, carriedBehind, sixMomentsBehind}
 use Rattle.rules.specs.ToeAndStem.{twiceArm, stemMiddle, twiceHeelArm, stemBack, wholeOf}
 use Rattle.rules.proofs.Accepted.{wall-within, base-length}
 use Rattle.rules.proofs.Examined.{Fit}

@@ -1,9 +1,6 @@
 -- Document 02, #103: what bears on the heel of a wall in whole numbers, by the kind of the block. Each figure is one quotient, rounded down.
 use mathlib.Core.Path.{_≡_, refl, sym, _∙_}
-use mathlib.Core.Logic.{dite}
 use Prim.Native.Nat.{ℕ, zero, suc, _+_, _-_, _*_, _≤_, _<_}
-use native.Mathlib.Nat.{mul-pos}
-use native.Mathlib.Decide.{decLt}
 use native.Mathlib.Omega.{arith}
 use lib.IntN.{pos}
 use Rattle.whole.specs.Rounding.{roundedDown}

@@ -13,16 +13,19 @@ use Rattle.rules.specs.JobFile.{Wall, toeLength, baseLength}
 use Rattle.rules.specs.Bearing.{factoredScale, greatestPeak, isGivenKind}
 use Rattle.rules.specs.ToeAndStem.{scaled, twiceArm, straight, plain, endedShear, endedMoment, begunShear, begunMoment, inNewtons, endedBearing, begunBearing, bearingBy}
 use Rattle.rules.proofs.Pressures.{Reaches, Touches, touches, reports, reported-most}
-use Rattle.wall.specs.Working.{Bears, fraction, begins, Stands}
+use Rattle.wall.specs.Working.{Bears, fraction, begins, Contact, Stands}
 
 -- ---- a contact
 
 exact : {l : ℕ} {c : Fraction} → Touches l c → c ≡ fraction (aboveZero (c .over)) (aboveZero (c .under))
 exact (touches hp hq within) = refl
 
+pub reaching : {l : ℕ} {c : Fraction} → Reaches c → Touches l c → Contact (aboveZero (c .over)) (aboveZero (c .under))
+reaching r (touches hp hq within) = record { over-some = hp; under-some = hq; over-most = r .over-most; under-most = r .under-most }
+
 stood : {l peak : ℕ} {c : Fraction} → peak ≤ greatestPeak → Reaches c → Touches l c → Stands peak (aboveZero (c .over)) (aboveZero (c .under))
 stood most r (touches hp hq within) =
-    record { peak-most = most; over-some = hp; under-some = hq; over-most = r .over-most; under-most = r .under-most }
+    record { peak-most = most; contact = reaching r (touches hp hq within) }
 
 based : {l : ℕ} {c : Fraction} → Touches l c → aboveZero (c .over) ≤ l * aboveZero (c .under)
 based (touches hp hq within) = within

@@ -1,7 +1,7 @@
 -- What bears on the heel, as it is worked: which block stands there, that each product fits 64 bits, and that a quotient from a wide number does.
-use mathlib.Core.Path.{_≡_, refl, sym, _∙_, ap}
+use mathlib.Core.Path.{_≡_, refl, sym, _∙_}
 use Prim.Native.Nat.{ℕ, _+_, _-_, _*_, _/_, _≤_, _<_, _^_, min}
-use native.Mathlib.Nat.{mul-le-mul, mul-le-mul-left, mul-le-mul-right, div-mul-le-self, le-trans}
+use native.Mathlib.Nat.{mul-le-mul, mul-le-mul-left, div-mul-le-self}
 use native.Mathlib.Omega.{arith}
 use lib.Dec.{T}
 use Rattle.whole.specs.Parts.{aboveZero}
@@ -9,18 +9,17 @@ use Rattle.whole.specs.Rounding.{roundedDown}
 use Rattle.whole.proofs.Rounded.{down-of-zero, down-nearest, nearest-least}
 use Rattle.rules.specs.declared.Action.{Action}
 use Rattle.rules.specs.declared.Block.{Block}
-use Rattle.rules.specs.declared.Fraction.{Fraction}
 use Rattle.rules.specs.declared.Kind.{Kind}
 use Rattle.rules.specs.declared.Kind.the-variants.{Full, FromToe, FromHeel, NoBlock}
 use Rattle.rules.specs.JobFile.{Wall, stemThickness, toeLength, heelLength, baseLength, wallFits}
-use Rattle.rules.specs.Bearing.{behindBy, behind, carriedBehind, sixMomentsBehind, factoredScale, greatestPeak, isGivenKind}
+use Rattle.rules.specs.Bearing.{behindBy, behind, carriedBehind, sixMomentsBehind, isGivenKind}
 use Rattle.rules.specs.ToeAndStem.{twiceArm, noAction, twiceHeelArm, wholeOf, heelBearing}
 use Rattle.rules.proofs.Accepted.{longest, wall-within, base-length}
-use Rattle.rules.proofs.Sizes.{heaviestFactored}
-use Rattle.rules.proofs.Pressures.{Reaches, Touches, touches}
+use Rattle.rules.proofs.Pressures.{touches}
 use Rattle.rules.proofs.Behind.{Figures, full, from-toe, from-heel, none, fullBlock, toeTriangle, heelTriangle}
 use Rattle.rules.proofs.HeelBearing.{full-shear, full-moment}
 use Rattle.wall.specs.Working.{Made, Contact, Ends}
+use Rattle.wall.proofs.Contacts.{reaching}
 
 -- a shear and a moment, as they are worked
 pub action-is : {a : Action} {shear moment : ℕ} → shear ≡ a .shear → moment ≡ a .moment → record { shear = shear; moment = moment } ≡ a
@@ -46,9 +45,6 @@ heel-shaped (full e f) told = cc
 heel-shaped (from-toe h k) told = cc
 heel-shaped (from-heel h e k) told = refl
 heel-shaped none told = cc
-
-reaching : {l : ℕ} {c : Fraction} → Reaches c → Touches l c → Contact (aboveZero (c .over)) (aboveZero (c .under))
-reaching r (touches hp hq within) = record { over-some = hp; under-some = hq; over-most = r .over-most; under-most = r .under-most }
 
 module _ {wall : Wall} {b : Block} (made : Made wall b) where
   -- a full block, by ends t and g
@@ -117,13 +113,6 @@ pub share-most : (n a b : ℕ) → a ≤ 4 * b → n / b * a ≤ 4 * n
 share-most n a b h = omega (arith, mul-le-mul-left (n / b) h, div-mul-le-self n b)
 
 -- ---- a triangle
-
--- the longest contact that there is, in its own parts
-abbrev pub widest : ℕ
-widest = longest * (2 * heaviestFactored)
-
-pub length-fits : {p q : ℕ} → Contact p q → (n : ℕ) → n ≤ longest → n * q ≤ widest
-length-fits s n h = mul-le-mul h (s .under-most)
 
 -- a quotient of which n is no less, as a wide number gives it
 pub share-is : {r a : ℕ} (b n : ℕ) → a ≤ n * b → n < 2 ^ 64 - 1 → r ≡ min (roundedDown a b) (2 ^ 64 - 1) → r ≡ roundedDown a b

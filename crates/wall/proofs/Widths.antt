@@ -9,17 +9,17 @@ use Rattle.rules.specs.ToeAndStem.{perPressure}
 use Rattle.rules.proofs.Accepted.{longest}
 use Rattle.rules.proofs.Sizes.{heaviestFactored}
 use Rattle.rules.proofs.Triangles.{past, past-most}
-use Rattle.wall.specs.Working.{Stands}
+use Rattle.wall.specs.Working.{Contact, Stands}
 
 -- the longest contact that there is, in its own parts
 abbrev pub widest : ℕ
 widest = longest * (2 * heaviestFactored)
 
-module _ {peak p q : ℕ} (s : Stands peak p q) where
-  -- a length, in parts of the contact
-  pub length-fits : (n : ℕ) → n ≤ longest → n * q ≤ widest
-  length-fits n h = mul-le-mul h (s .under-most)
+-- a length, in parts of the contact
+pub length-fits : {p q : ℕ} → Contact p q → (n : ℕ) → n ≤ longest → n * q ≤ widest
+length-fits s n h = mul-le-mul h (s .under-most)
 
+module _ {peak p q : ℕ} (s : Stands peak p q) where
   -- the peak over a length, and over so many of these parts
   pub over-length : (n : ℕ) → n ≤ longest → peak * n < 2 ^ 35
   over-length n h = omega (arith, mul-le-mul (s .peak-most) h)
@@ -31,14 +31,14 @@ module _ {peak p q : ℕ} (s : Stands peak p q) where
   pub scale-fits : (twice : ℕ) → twice ≤ 2 * longest → (peak * (2 * p - q * twice) < 2 ^ 63) × (2 * p < 2 ^ 63) × (q * twice < 2 ^ 63)
   scale-fits twice h =
       let part : 2 * p - q * twice ≤ 2 * widest = omega arith in
-      omega (arith, mul-le-mul (s .peak-most) part, mul-le-mul (s .under-most) h)
+      omega (arith, mul-le-mul (s .peak-most) part, mul-le-mul (s .contact .under-most) h)
 
   -- what lies past a section at i/j of a triangle from the heel is no more than its contact, nor than the way to the section
   pub past-fits : (l i : ℕ) {j : ℕ} → 0 < j → p ≤ l * q → i ≤ j * l → i ≤ longest → (past p q l i j ≤ j * p) × (past p q l i j ≤ longest * q) × (past p q l i j ≤ widest)
   unfolding past
   past-fits l i {j} some within on h =
-      let way = past-most peak p q (s .over-some) (s .under-some) l i j some within on in
-      omega (arith, mul-le-mul-right q h, length-fits i h)
+      let way = past-most peak p q (s .contact .over-some) (s .contact .under-some) l i j some within on in
+      omega (arith, mul-le-mul-right q h, length-fits (s .contact) i h)
 
   -- ---- the quotients
 

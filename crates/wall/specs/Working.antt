@@ -36,20 +36,16 @@ fraction over under = record { over = pos over; under = pos under }
 abbrev pub begins : ℕ → ℕ → ℕ → Fraction
 begins l over under = minus (plain l) (fraction over under)
 
--- a triangle's peak and contact, over and under, with which its bearing can be worked
-pub record Stands (peak over under : ℕ) : Type 0 where
-  pub peak-most : peak ≤ greatestPeak
-  pub over-some : 0 < over
-  pub under-some : 0 < under
-  pub over-most : over ≤ 2 * heaviestFactored * longest
-  pub under-most : under ≤ 2 * heaviestFactored
-
--- the contact of a triangle that bears on the heel
+-- a triangle's contact, over and under, with which its bearing can be worked; and with its reported peak
 pub record Contact (over under : ℕ) : Type 0 where
   pub over-some : 0 < over
   pub under-some : 0 < under
   pub over-most : over ≤ 2 * heaviestFactored * longest
   pub under-most : under ≤ 2 * heaviestFactored
+
+pub record Stands (peak over under : ℕ) : Type 0 where
+  pub peak-most : peak ≤ greatestPeak
+  pub contact : Contact over under
 
 -- a full block's two ends, of which l^2 make a tenth of a kN/m2: neither is above the greatest peak
 pub record Ends (l toe heel : ℕ) : Type 0 where

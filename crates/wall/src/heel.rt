@@ -18,7 +18,6 @@ ghost use lib.Dec.{T};
 ghost use Rattle.whole.specs.Rounding.{roundedDown};
 ghost use Rattle.rules.specs.JobFile.{baseLength, wallFits};
 ghost use Rattle.rules.specs.ToeAndStem.{twiceHeelArm, fillOnHeel, shearOnHeel, momentOnHeel, heelBearing, heelAction};
-ghost use Rattle.rules.proofs.Accepted.{longest};
 ghost use Rattle.rules.proofs.Behind.{fullBlock, toeTriangle, heelTriangle};
 ghost use Rattle.wall.specs.Working.{Ends, Contact, Made};
 

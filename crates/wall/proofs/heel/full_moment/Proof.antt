@@ -1,6 +1,6 @@
 -- `wall::heel::full_moment` meets its contract: each product fits, and two divisions that are rounded down are one.
 use mathlib.Core.Path.{_∙_}
-use Prim.Native.Nat.{ℕ, _+_, _-_, _*_, _≤_}
+use Prim.Native.Nat.{_+_, _-_, _*_, _≤_}
 use native.Mathlib.Nat.{mul-le-mul, mul-pos}
 use native.Mathlib.Omega.{arith}
 use borrow.Author.Needs.{needs}

@@ -1,13 +1,14 @@
 -- `wall::heel::moment_of_heel_triangle` meets its contract: the triangle is cut by the stem's middle, or stands behind it whole.
-use mathlib.Core.Path.{_≡_, sym, _∙_}
-use Prim.Native.Nat.{ℕ, _-_, _*_, _≤_, _<_}
+use mathlib.Core.Path.{sym, _∙_}
+use Prim.Native.Nat.{_*_, _≤_, _<_}
 use native.Mathlib.Omega.{arith}
 use borrow.Author.Needs.{needs}
 use Rattle.rules.specs.JobFile.{stemThickness}
-use Rattle.rules.proofs.Accepted.{wall-within, longest}
+use Rattle.rules.proofs.Accepted.{wall-within}
 use Rattle.rules.proofs.Lines.{heel-arm-most}
 use Rattle.rules.proofs.HeelBearing.{heel-moment-cut, heel-moment-all}
-use Rattle.wall.proofs.UnderHeel.{widest, length-fits, share-is, cut-moment}
+use Rattle.wall.proofs.UnderHeel.{share-is, cut-moment}
+use Rattle.wall.proofs.Widths.{widest, length-fits}
 use Rattle.wall.proofs.heel.moment_of_heel_triangle.Statement.{statement}
 use Rattle.wall.proofs.heel.moment_of_heel_triangle.Tie as tie
 

@@ -1,12 +1,13 @@
 -- `wall::heel::shear_of_heel_triangle` meets its contract: the triangle is cut by the stem's back, or stands behind it whole.
-use mathlib.Core.Path.{_≡_, sym, _∙_}
-use Prim.Native.Nat.{ℕ, _-_, _*_, _≤_, _<_}
+use mathlib.Core.Path.{sym, _∙_}
+use Prim.Native.Nat.{_*_, _<_}
 use native.Mathlib.Omega.{arith}
 use borrow.Author.Needs.{needs}
-use Rattle.rules.specs.JobFile.{stemThickness, heelLength}
-use Rattle.rules.proofs.Accepted.{wall-within, longest}
+use Rattle.rules.specs.JobFile.{stemThickness}
+use Rattle.rules.proofs.Accepted.{wall-within}
 use Rattle.rules.proofs.HeelBearing.{heel-shear-cut, heel-shear-all}
-use Rattle.wall.proofs.UnderHeel.{length-fits, share-is, cut-shear}
+use Rattle.wall.proofs.UnderHeel.{share-is, cut-shear}
+use Rattle.wall.proofs.Widths.{length-fits}
 use Rattle.wall.proofs.heel.shear_of_heel_triangle.Statement.{statement}
 use Rattle.wall.proofs.heel.shear_of_heel_triangle.Tie as tie
 

@@ -1,14 +1,15 @@
 -- `wall::heel::under_toe_triangle` meets its contract: what reaches past a section is a part of the contact, and the quotients are its share.
 use mathlib.Core.Path.{_≡_, sym, _∙_}
-use Prim.Native.Nat.{ℕ, _+_, _-_, _*_, _≤_}
+use Prim.Native.Nat.{_+_, _-_, _*_, _≤_}
 use native.Mathlib.Omega.{arith}
 use borrow.Author.Needs.{needs}
-use Rattle.rules.specs.JobFile.{stemThickness, toeLength, heelLength, baseLength}
+use Rattle.rules.specs.JobFile.{stemThickness, toeLength, baseLength}
 use Rattle.rules.specs.ToeAndStem.{twiceArm}
 use Rattle.rules.proofs.Accepted.{wall-within, longest, base-length}
 use Rattle.rules.proofs.Lines.{arm-most}
 use Rattle.rules.proofs.HeelBearing.{toe-shear, toe-moment}
-use Rattle.wall.proofs.UnderHeel.{action-is, length-fits, share-is, tip-shear, tip-moment}
+use Rattle.wall.proofs.UnderHeel.{action-is, share-is, tip-shear, tip-moment}
+use Rattle.wall.proofs.Widths.{length-fits}
 use Rattle.wall.proofs.heel.under_toe_triangle.Statement.{statement}
 use Rattle.wall.proofs.heel.under_toe_triangle.Tie as tie
 

@@ -31,7 +31,7 @@ short : (c : tie.After-struct-known2) → (c .before .before .before .field .res
 short c = omega (arith, arm-most (wall-within _ (start c .pre .0)), c .before .before .before .field .ensures, c .before .before .twice-arm .ensures)
 
 mul-if1-2 : tie.Need-mul-if1-2
-mul-if1-2 c = omega (arith, length-fits (stands c) (c .before .before .twice-arm .result) (short c .1))
+mul-if1-2 c = omega (arith, length-fits (stands c .contact) (c .before .before .twice-arm .result) (short c .1))
 
 ended-moment-requires : tie.Need-ended-moment-requires
 ended-moment-requires c κs = let test = c .before .before in (stands test, short test .1, omega arith)
@@ -61,7 +61,7 @@ returns-2 c =
     let s = stands test in
     let peak = start test .args .pressed .toe in
     straight-action (start test .args .wall) (scaled peak (fraction (parts test .parts-of .result .over) (parts test .parts-of .result .under)))
-    (test .before .before .before .field .ensures .0) arm (sym (scaled-start peak _ _ (s .over-some)))
+    (test .before .before .before .field .ensures .0) arm (sym (scaled-start peak _ _ (s .contact .over-some)))
     (c .before .before .scaled-peak .ensures ∙ sym (scaled-is peak _ _ _)) (c .before .scaled-peak2 .ensures ∙ sym (scaled-is peak _ _ _)) (c .straight .ensures)
     ∙ sym (reached (start test .pre .1) (parts test .parts-of .ensures .0) (parts test .parts-of .ensures .1) (start test .pre .2) (rw (← arm) (omega arith)))
 

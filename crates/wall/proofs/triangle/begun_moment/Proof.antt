@@ -17,7 +17,7 @@ use Rattle.wall.proofs.triangle.begun_moment.Statement.{statement}
 use Rattle.wall.proofs.triangle.begun_moment.Tie as tie
 
 mul-excess-3 : tie.Need-mul-excess-3
-mul-excess-3 c = omega (arith, length-fits (c .pre .0) (c .args .l) (c .pre .1), mul-le-mul-left (c .args .under) (let k : 2 * c .args .l - c .args .arm ≤ 2 * c .args .l = omega arith in k))
+mul-excess-3 c = omega (arith, length-fits (c .pre .0 .contact) (c .args .l) (c .pre .1), mul-le-mul-left (c .args .under) (let k : 2 * c .args .l - c .args .arm ≤ 2 * c .args .l = omega arith in k))
 
 -- what is past the section, which is no more than the contact, nor than the way to the section
 abbrev reached : tie.After-excess → ℕ
@@ -37,7 +37,7 @@ law : (c : tie.After-excess) → let a = c .before .args in let e = reached c in
 law c =
     let start = c .before in
     let s = start .pre .0 in
-    rw (same c) (before-moment (start .args .peak) _ _ (s .over-some) (s .under-some) (start .args .l) (start .args .arm) 2 (omega arith) (start .pre .4) (omega arith))
+    rw (same c) (before-moment (start .args .peak) _ _ (s .contact .over-some) (s .contact .under-some) (start .args .l) (start .args .arm) 2 (omega arith) (start .pre .4) (omega arith))
 
 returns : tie.Need-returns
 returns c =

@@ -16,7 +16,7 @@ use Rattle.wall.proofs.triangle.begun_shear.Statement.{statement}
 use Rattle.wall.proofs.triangle.begun_shear.Tie as tie
 
 mul-excess : tie.Need-mul-excess
-mul-excess c = omega (arith, length-fits (c .pre .0) (c .args .l - c .args .lt) (omega arith))
+mul-excess c = omega (arith, length-fits (c .pre .0 .contact) (c .args .l - c .args .lt) (omega arith))
 
 -- what is past the section, which is no more than the contact, nor than the way to the section
 abbrev reached : tie.After-excess → ℕ
@@ -35,7 +35,7 @@ law : (c : tie.After-excess) → let a = c .before .args in let e = reached c in
 law c =
     let start = c .before in
     let s = start .pre .0 in
-    rw (same c) (before-shear (start .args .peak) _ _ (s .over-some) (s .under-some) (start .args .l) (start .args .lt) 1 (omega arith) (start .pre .3) (omega arith))
+    rw (same c) (before-shear (start .args .peak) _ _ (s .contact .over-some) (s .contact .under-some) (start .args .l) (start .args .lt) 1 (omega arith) (start .pre .3) (omega arith))
 
 returns : tie.Need-returns
 returns c =

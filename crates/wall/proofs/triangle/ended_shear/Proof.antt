@@ -10,7 +10,7 @@ use Rattle.wall.proofs.triangle.ended_shear.Statement.{statement}
 use Rattle.wall.proofs.triangle.ended_shear.Tie as tie
 
 mul-face : tie.Need-mul-face
-mul-face c = omega (arith, length-fits (c .pre .0) (c .args .lt) (c .pre .1))
+mul-face c = omega (arith, length-fits (c .pre .0 .contact) (c .args .lt) (c .pre .1))
 
 mul-of : tie.Need-mul-of
 mul-of c = omega (arith, over-length (c .before .pre .0) (c .before .args .lt) (c .before .pre .1))
@@ -24,7 +24,7 @@ returns c =
     let part = exactly 42 lt (omega arith) (lit≤ tt) (above .times .ensures) in
     let over = first 52 (c .before .of2 .ensures) (omega arith) in
     up-exact part over (toe-shear-fits s (start .args .lt) (start .pre .1)) (c .quotient-up .ensures)
-    ∙ sym (over-toe _ _ _ (s .over-some) (s .under-some) (start .args .lt) (omega arith))
+    ∙ sym (over-toe _ _ _ (s .contact .over-some) (s .contact .under-some) (start .args .lt) (omega arith))
 
 mul-rounded-up : tie.Need-mul-rounded-up
 mul-rounded-up c = omega (arith, over-parts (c .before .pre .0) (c .before .args .over) (omega arith))
@@ -33,7 +33,7 @@ returns-2 : tie.Need-returns-2
 returns-2 c =
     let start = c .before .before in
     let s = start .pre .0 in
-    c .rounded-up .ensures ∙ sym (all _ _ _ (s .over-some) (s .under-some) (start .args .lt) (omega arith))
+    c .rounded-up .ensures ∙ sym (all _ _ _ (s .contact .over-some) (s .contact .under-some) (start .args .lt) (omega arith))
 
 pub ended-shear-spec : {M : Type 1} → statement M
 ended-shear-spec =
