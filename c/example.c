@@ -100,6 +100,19 @@ static uint64_t write_again(void)
     return office_write(walls, OFFICE_WALL_FIELDS * office_wall_count(job), loads, OFFICE_LOAD_FIELDS * office_load_count(job), again, sizeof again);
 }
 
+/* Wall 1's verdict in that job, or why it is refused. */
+static void print_again(const char *with)
+{
+    uint64_t answer = write_again();
+    printf("with %s, ", with);
+    if (office_answer_number(answer) == OFFICE_WORKED)
+        answer = office_calculate(again, office_answer_bytes(answer), numbers, OFFICE_LINE_NUMBERS * OFFICE_MOST_WALLS);
+    if (office_answer_number(answer) == OFFICE_WORKED)
+        print_verdict(numbers);
+    else
+        refused(answer);
+}
+
 int main(int count, char **words)
 {
     FILE *file = count == 2 ? fopen(words[1], "rb") : NULL;
@@ -140,17 +153,14 @@ int main(int count, char **words)
     printf("written again: %u bytes, %s\n", (unsigned)bytes, bytes == length && memcmp(again, job, length) == 0 ? "the same" : "not the same");
 
     walls[OFFICE_WALL_STEM_SPACING] = 50; /* the records begin with wall 1's */
-    answer = write_again();
-    if (office_answer_number(answer) != OFFICE_WORKED)
-        return refused(answer);
-    answer = office_calculate(again, office_answer_bytes(answer), numbers, OFFICE_LINE_NUMBERS * OFFICE_MOST_WALLS);
-    if (office_answer_number(answer) != OFFICE_WORKED)
-        return refused(answer);
-    printf("with a stem bar every 50 mm, ");
-    print_verdict(numbers);
+    print_again("a stem bar every 50 mm");
+
+    walls[OFFICE_WALL_DOWNSTAND_DEPTH] = 600;
+    walls[OFFICE_WALL_DOWNSTAND_POSITION] = 0;
+    walls[OFFICE_WALL_DOWNSTAND_THICKNESS] = 200;
+    print_again("a downstand 600 mm deep at the toe");
 
     walls[OFFICE_WALL_STEM_HEIGHT] = 0;
-    printf("with a stem of no height, ");
-    refused(write_again());
+    print_again("a stem of no height");
     return 0;
 }

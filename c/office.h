@@ -35,13 +35,13 @@ enum {
     OFFICE_MOST_WALLS = 64,   /* walls that a job may have; 19 x 64 numbers are room for any sheet */
     OFFICE_TEXT_ROOM = 25536, /* bytes, room for the text of any job: 21 x 19 x 64 */
     OFFICE_FIGURE_ROOM = 5,   /* doubles, room for the figures of any drawing */
-    OFFICE_WALL_FIELDS = 35,  /* numbers in a wall's record */
+    OFFICE_WALL_FIELDS = 38,  /* numbers in a wall's record */
     OFFICE_LOAD_FIELDS = 5,   /* numbers in a load's record */
     OFFICE_MOST_LOADS = 512,  /* loads that a job may have */
-    /* numbers, room for the walls of any job, and for its loads: 2240 and 2560 */
+    /* numbers, room for the walls of any job, and for its loads: 2432 and 2560 */
     OFFICE_WALL_ROOM = OFFICE_WALL_FIELDS * OFFICE_MOST_WALLS,
     OFFICE_LOAD_ROOM = OFFICE_LOAD_FIELDS * OFFICE_MOST_LOADS,
-    /* bytes, room for any job: 19212 */
+    /* bytes, room for any job: 19980 */
     OFFICE_FILE_ROOM = 12 + 4 * OFFICE_WALL_ROOM + 4 * OFFICE_LOAD_ROOM
 };
 
@@ -59,7 +59,7 @@ static inline size_t office_answer_bytes(uint64_t answer) { return (size_t)(answ
 enum office_refusal {
     OFFICE_WORKED = 0,             /* no refusal */
     OFFICE_TOO_SHORT = 1,          /* the job has fewer than 12 bytes */
-    OFFICE_WRONG_EDITION = 2,      /* its edition isn't 1 */
+    OFFICE_WRONG_EDITION = 2,      /* its edition isn't 2 */
     OFFICE_COUNT_OUT_OF_RANGE = 3, /* it has no wall or more than 64, or more than 512 loads; or a record isn't whole */
     OFFICE_WRONG_OFFSET = 4,       /* an offset isn't the one that the counts give */
     OFFICE_WRONG_LENGTH = 10,      /* the length isn't, or isn't that of the job */
@@ -90,9 +90,9 @@ enum office_line {
     OFFICE_LINE_WALL,         /* the wall's number */
     OFFICE_LINE_FAILURES,     /* the checks that it fails, a bit each */
     OFFICE_LINE_R,            /* vertical force, N */
-    OFFICE_LINE_H,            /* horizontal force, N */
+    OFFICE_LINE_H,            /* horizontal force on the wall's whole height, N */
     OFFICE_LINE_PROPPING,     /* propping force, N */
-    OFFICE_LINE_M6,           /* moment about the toe, in sixths of a N mm; it may be negative */
+    OFFICE_LINE_M6,           /* moment about the toe, at the base's underside, in sixths of a N mm; it may be negative */
     OFFICE_LINE_SERVICE_TOE,  /* pressure at the toe, N/m2 */
     OFFICE_LINE_SERVICE_HEEL, /* and at the heel */
     OFFICE_LINE_FACTORED_TOE, /* the same two, factored */
@@ -157,7 +157,7 @@ enum office_shape {
 enum office_figure {
     OFFICE_FIGURE_R,        /* R, kN */
     OFFICE_FIGURE_H,        /* H, kN */
-    OFFICE_FIGURE_DISTANCE, /* how far from the toe R acts, mm */
+    OFFICE_FIGURE_DISTANCE, /* how far from the toe R acts, at the base's underside, mm */
     OFFICE_FIGURE_ONE,      /* the shape's own two */
     OFFICE_FIGURE_TWO
 };
@@ -174,7 +174,7 @@ uint64_t office_drawing(const uint8_t *job, size_t job_length, uint32_t wall, do
 
 /*
  * Where each number of a wall's record stands, which is its field's number less 1. Lengths are in mm, densities in 10 N/m3, coefficients in
- * thousandths. docs/JOB-FILE.md has the ranges.
+ * thousandths. docs/JOB-FILE.md has the ranges. Of a wall without a downstand the last three are 0.
  */
 enum office_wall {
     OFFICE_WALL_KIND,              /* 0 unpropped, 1 propped at the base */
@@ -185,7 +185,7 @@ enum office_wall {
     OFFICE_WALL_BASE_THICKNESS,
     OFFICE_WALL_COVER_IN_FRONT,
     OFFICE_WALL_EXCAVATION,        /* unplanned */
-    OFFICE_WALL_WATER,             /* its height above the underside of the base */
+    OFFICE_WALL_WATER,             /* its height above the underside of the downstand, or of the base where there is none */
     OFFICE_WALL_STEM_DENSITY,
     OFFICE_WALL_BASE_DENSITY,
     OFFICE_WALL_MOIST_DENSITY,     /* of moist fill, */
@@ -211,7 +211,10 @@ enum office_wall {
     OFFICE_WALL_HEEL_COVER,        /* the same three of the heel, and its stress */
     OFFICE_WALL_HEEL_BAR,
     OFFICE_WALL_HEEL_SPACING,
-    OFFICE_WALL_HEEL_STRESS
+    OFFICE_WALL_HEEL_STRESS,
+    OFFICE_WALL_DOWNSTAND_DEPTH,   /* below the base's underside; how far from the toe it begins, and how thick it is */
+    OFFICE_WALL_DOWNSTAND_POSITION,
+    OFFICE_WALL_DOWNSTAND_THICKNESS
 };
 
 /* And of a load's. */
@@ -228,15 +231,15 @@ static inline size_t office_wall_count(const uint8_t *job) { return job[2] + 256
 static inline size_t office_load_count(const uint8_t *job) { return job[6] + 256u * job[7]; }
 
 /*
- * The records of a job. Where it is taken apart the answer is 0, and the one buffer holds 35 numbers for each wall, the other 5 for each
+ * The records of a job. Where it is taken apart the answer is 0, and the one buffer holds 38 numbers for each wall, the other 5 for each
  * load, in the job's order, and behind them what they held before. A refusal is 1 to 7 or 10, with its place, or 8 where either buffer has
  * room for fewer; then both are as they were.
  */
 uint64_t office_records(const uint8_t *job, size_t job_length, uint32_t *walls, size_t walls_length, uint32_t *loads, size_t loads_length);
 
 /*
- * The job that records make: 35 numbers for each wall, and 5 for each load. Where it is written the answer's refusal is 0 and its bytes are
- * 12, 140 for each wall and 20 for each load; the buffer holds the job in so many, and behind them what it held before. office_records gives
+ * The job that records make: 38 numbers for each wall, and 5 for each load. Where it is written the answer's refusal is 0 and its bytes are
+ * 12, 152 for each wall and 20 for each load; the buffer holds the job in so many, and behind them what it held before. office_records gives
  * the same records of it, and what it gives of any job is written as the same bytes. A refusal is 3, also for numbers that aren't whole
  * records, 5 to 7 as the job would be refused, with its place, or 9 where the buffer has room for fewer bytes; then the answer's bytes are
  * 0, and the buffer is as it was.

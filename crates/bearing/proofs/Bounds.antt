@@ -6,13 +6,13 @@ use Rattle.rules.proofs.Accepted.{longest}
 use Rattle.rules.proofs.Sizes.{heaviestFactored}
 use Rattle.bearing.specs.Within.{Within}
 
-pub record Bounds (R M6 l : ℕ) : Type 0 where
+pub record Bounds (R l : ℕ) : Type 0 where
   pub along : 6 * R * l < 10000000000000
   pub square : 4 * R * R < 40000000000000000
   pub base : l * l < 1000000000
 
-pub bounds : {R M6 l : ℕ} → Within R M6 l → Bounds R M6 l
-bounds {R} {M6} {l} w =
+pub bounds : {R l : ℕ} → Within R l → Bounds R l
+bounds {R} {l} w =
     let r : R ≤ heaviestFactored = omega (arith, w .force) in
     let long : l ≤ longest = w .length .1 in
     record {

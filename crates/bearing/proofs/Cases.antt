@@ -18,13 +18,13 @@ module _ (R M6 l : ℕ) where
 
   -- ---- the kind is that whose case M6 falls in, and the other way round
 
-  kind : Within R M6 l → (k : Kind) → (kindOf (pos R) (pos M6) (pos l) ≡ k) ↔ Makes k (pos R) (pos M6) (pos l)
+  kind : Within R l → (k : Kind) → (kindOf (pos R) (pos M6) (pos l) ≡ k) ↔ Makes k (pos R) (pos M6) (pos l)
   kind w = kind-makes (pos R) (pos M6) (pos l) (pos-<ℤ .1 (w .force .0)) (pos-<ℤ .1 (w .length .0))
 
-  pub its-case : Within R M6 l → Makes (kindOf (pos R) (pos M6) (pos l)) (pos R) (pos M6) (pos l)
+  pub its-case : Within R l → Makes (kindOf (pos R) (pos M6) (pos l)) (pos R) (pos M6) (pos l)
   its-case w = kind w (kindOf (pos R) (pos M6) (pos l)) .0 refl
 
-  pub made : Within R M6 l → (k : Kind) → Makes k (pos R) (pos M6) (pos l) → blockOf (pos R) (pos M6) (pos l) ≡ ofKind k (pos R) (pos M6) (pos l)
+  pub made : Within R l → (k : Kind) → Makes k (pos R) (pos M6) (pos l) → blockOf (pos R) (pos M6) (pos l) ≡ ofKind k (pos R) (pos M6) (pos l)
   unfolding blockOf
   made w k h = ap (λ (k : Kind). ofKind k (pos R) (pos M6) (pos l)) (kind w k .1 h)
 

@@ -1,5 +1,5 @@
 -- What is reported of a block: its scaled figures fit, and the block is given or not by the greater of its pressures.
-use mathlib.Core.Path.{_≡_, refl}
+use mathlib.Core.Path.{_≡_, refl, ap}
 use Prim.Native.Nat.{ℕ, zero, suc, _*_, _≤_, _<_, _^_, max}
 use native.Mathlib.Nat.{mul-le-mul, mul-zero}
 use native.Mathlib.Omega.{arith}
@@ -8,7 +8,7 @@ use lib.IntN.{ℤ, pos, negsuc}
 use lib.Signed.{_≤ℤ_}
 use Rattle.whole.specs.Parts.{aboveZero}
 use Rattle.whole.specs.Rounding.{roundedUp}
-use Rattle.whole.proofs.Integer.{pos-≤ℤ, nonneg-aboveZero}
+use Rattle.whole.proofs.Integer.{pos-≤ℤ, pos-<ℤ, nonneg-aboveZero}
 use Rattle.rules.specs.declared.Kind.{Kind}
 use Rattle.rules.specs.declared.Kind.the-variants.{Full, FromToe, FromHeel, NoBlock}
 use Rattle.rules.specs.declared.Block.{Block}
@@ -21,7 +21,7 @@ use Rattle.bearing.proofs.Cases.{none, its-case, full-figures, heel-fig
 -- the block is made of what lies above 0: where M6 doesn't, there is none
 pub whole-block : (R M6 : ℤ) (l : ℕ) → pos 0 ≤ℤ R → blockOf R M6 (pos l) ≡ blockOf (pos (aboveZero R)) (pos (aboveZero M6)) (pos l)
 unfolding isNone kindOf ofKind blockOf
-whole-block R (pos m) l h = rw (← nonneg-aboveZero h)
+whole-block R (pos m) l h = ap (λ (z : ℤ). blockOf z (pos m) (pos l)) (nonneg-aboveZero h)
 whole-block R (negsuc m) l h = refl
 
 -- ---- the scaled figures
@@ -31,7 +31,7 @@ nothing : (scale : ℕ) → Reportable scale noBlock
 nothing scale = record { toe = omega arith; heel = omega arith }
 
 -- whatever its kind is, they are no more than 4Rl or 4R^2
-module _ (scale R M6 l : ℕ) (s : Scaled scale R M6 l) where
+module _ (scale R M6 l : ℕ) (s : Scaled scale R l) where
   along : (n : ℕ) → n ≤ 4 * R * l → scale * n < 2 ^ 63
   along n h = omega (arith, bounds (s .within), mul-le-mul (s .small) h)
 
@@ -41,17 +41,17 @@ module _ (scale R M6 l : ℕ) (s : Scaled scale R M6 l) where
       rw (full-figures R M6 l (pos-≤ℤ .0 (h .0)) (pos-≤ℤ .0 (h .1)))
       (record { toe = along _ (omega arith); heel = along _ (omega (arith, pos-≤ℤ .0 (h .1))) })
   of-kind FromToe h = record { toe = s .square; heel = omega arith }
-  of-kind FromHeel h = rw (heel-figures R M6 l (s .within .on-base)) (record { toe = omega arith; heel = s .square })
+  of-kind FromHeel h = rw (heel-figures R M6 l (pos-<ℤ .0 (h .1))) (record { toe = omega arith; heel = s .square })
   of-kind NoBlock h = nothing scale
 
 -- those of any block fit
-fits : (scale R M6 l : ℕ) → (0 < M6 → Scaled scale R M6 l) → Reportable scale (blockOf (pos R) (pos M6) (pos l))
+fits : (scale R M6 l : ℕ) → (0 < M6 → Scaled scale R l) → Reportable scale (blockOf (pos R) (pos M6) (pos l))
 unfolding blockOf
 fits scale R zero l s = rw (none R 0 l refl) (nothing scale)
 fits scale R (suc m) l s =
     let w = s (omega arith) in of-kind scale R (suc m) l w (kindOf (pos R) (pos (suc m)) (pos l)) (its-case R (suc m) l (w .within))
 
-pub reportable : (scale l : ℕ) (R M6 : ℤ) → pos 0 ≤ℤ R → (0 < aboveZero M6 → Scaled scale (aboveZero R) (aboveZero M6) l)
+pub reportable : (scale l : ℕ) (R M6 : ℤ) → pos 0 ≤ℤ R → (0 < aboveZero M6 → Scaled scale (aboveZero R) l)
     → Reportable scale (blockOf R M6 (pos l))
 reportable scale l R M6 h s = rw (whole-block R M6 l h) (fits scale (aboveZero R) (aboveZero M6) l s)
 

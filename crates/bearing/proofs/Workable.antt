@@ -4,7 +4,7 @@ use Prim.Native.Nat.{ℕ, _*_, _≤_, _<_, _^_}
 use native.Mathlib.Nat.{mul-le-mul, mul-le-mul-left}
 use native.Mathlib.Omega.{arith}
 use lib.Dec.{T, lit≤, lit<}
-use lib.IntN.{ℤ, pos, negsuc, _*ℤ_}
+use lib.IntN.{ℤ, pos, negsuc}
 use lib.Signed.{_<ℤ_, ≤ℤ-refl}
 use Rattle.whole.specs.Parts.{aboveZero}
 use Rattle.whole.proofs.Integer.{≤ℤ-of-<ℤ, pos-<ℤ}
@@ -21,20 +21,19 @@ use Rattle.bearing.specs.Within.{Scaled, Workable}
 
 -- small totals are, at a scale that suits them
 module _ (scale most l : ℕ) (small : scale ≤ 1000) (light : most ≤ heaviestFactored) (square : scale * (4 * most * most) < 2 ^ 63) (long : (0 < l) × (l ≤ longest)) where
-  scaled : (R M6 : ℤ) → pos 0 <ℤ R → R <ℤ pos most → M6 <ℤ (pos 6 *ℤ R *ℤ pos l) → 0 < aboveZero M6 → Scaled scale (aboveZero R) (aboveZero M6) l
-  scaled (pos r) (pos m) some less on up =
+  scaled : (R : ℤ) → pos 0 <ℤ R → R <ℤ pos most → Scaled scale (aboveZero R) l
+  scaled (pos r) some less =
       let under : r ≤ most = omega (arith, pos-<ℤ .0 less) in
       let squares : 4 * r * r ≤ 4 * most * most = omega (arith, mul-le-mul under under) in
       record {
-        within = record { force = (pos-<ℤ .0 some, omega (arith, pos-<ℤ .0 less)); length = long; on-base = pos-<ℤ .0 on };
+        within = record { force = (pos-<ℤ .0 some, omega (arith, pos-<ℤ .0 less)); length = long };
         small = small;
         square = omega (arith, mul-le-mul-left scale squares);
       }
-  scaled (pos r) (negsuc m) some less on up = absurd (omega arith)
-  scaled (negsuc r) M6 some less on up = absurd (some .lt)
+  scaled (negsuc r) some less = absurd (some .lt)
 
-  sized : (t : Totals) → Sized (pos l) most t → Workable scale l t
-  sized t s = record { least = ≤ℤ-of-<ℤ (s .some); scaled = scaled (t .R) (t .M6) (s .some) (s .R) (s .on-base) }
+  sized : (t : Totals) → Sized most t → Workable scale l t
+  sized t s = record { least = ≤ℤ-of-<ℤ (s .some); scaled = λ up. scaled (t .R) (s .some) (s .R) }
 
 -- and so are totals of 0, which have no block
 none : (scale l : ℕ) → Workable scale l noTotals

@@ -8,22 +8,21 @@ use Rattle.rules.specs.declared.Block.{Block}
 use Rattle.rules.proofs.Accepted.{longest}
 use Rattle.rules.proofs.Sizes.{heaviestFactored}
 
--- R, M6 and l, of an accepted wall in service or factored
-pub record Within (R M6 l : ℕ) : Type 0 where
+-- R and l, of an accepted wall in service or factored
+pub record Within (R l : ℕ) : Type 0 where
   pub force : (0 < R) × (R < heaviestFactored)
   pub length : (0 < l) × (l ≤ longest)
-  pub on-base : M6 < 6 * R * l
 
 -- and a scale to report pressures at
-pub record Scaled (scale R M6 l : ℕ) : Type 0 where
-  pub within : Within R M6 l
+pub record Scaled (scale R l : ℕ) : Type 0 where
+  pub within : Within R l
   pub small : scale ≤ 1000
   pub square : scale * (4 * R * R) < 2 ^ 63
 
 -- totals that a block can be worked from and reported by; where M6 isn't above 0 there is none to work
 pub record Workable (scale l : ℕ) (t : Totals) : Type 0 where
   pub least : pos 0 ≤ℤ t .R
-  pub scaled : 0 < aboveZero (t .M6) → Scaled scale (aboveZero (t .R)) (aboveZero (t .M6)) l
+  pub scaled : 0 < aboveZero (t .M6) → Scaled scale (aboveZero (t .R)) l
 
 -- a block's pressures can be multiplied by the scale
 pub record Reportable (scale : ℕ) (b : Block) : Type 0 where

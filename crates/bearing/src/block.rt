@@ -41,7 +41,7 @@ fn over(a: u64, b: u64) -> Fraction
 
 // Over all of l.
 fn full(r: u64, m: u64, l: u64) -> Block
-    requires { ⌜ Within r m l × (2 * r * l ≤ m) × (m ≤ 4 * r * l) ⌝ }
+    requires { ⌜ Within r l × (2 * r * l ≤ m) × (m ≤ 4 * r * l) ⌝ }
     ensures { λ b. ⌜ b ≡ ofKind Full (pos r) (pos m) (pos l) ⌝ }
 {
     let toe = over(4 * r * l - m, l * l);
@@ -56,7 +56,7 @@ fn full(r: u64, m: u64, l: u64) -> Block
 
 // A triangle from the toe.
 fn from_toe(r: u64, m: u64, l: u64) -> Block
-    requires { ⌜ Within r m l ⌝ }
+    requires { ⌜ Within r l × (m < 2 * r * l) ⌝ }
     ensures { λ b. ⌜ b ≡ ofKind FromToe (pos r) (pos m) (pos l) ⌝ }
 {
     Block {
@@ -69,7 +69,7 @@ fn from_toe(r: u64, m: u64, l: u64) -> Block
 
 // A triangle from the heel.
 fn from_heel(r: u64, m: u64, l: u64) -> Block
-    requires { ⌜ Within r m l ⌝ }
+    requires { ⌜ Within r l × (m < 6 * r * l) ⌝ }
     ensures { λ b. ⌜ b ≡ ofKind FromHeel (pos r) (pos m) (pos l) ⌝ }
 {
     let n = 6 * r * l - m;
@@ -81,9 +81,9 @@ fn from_heel(r: u64, m: u64, l: u64) -> Block
     }
 }
 
-// The block of the case that M6 falls in, compared multiplied out.
+// The block of the case that M6 falls in, compared multiplied out. R has to meet the base between its ends.
 fn block_above_zero(r: u64, m: u64, l: u64) -> Block
-    requires { ⌜ (0 < m → Within r m l) ⌝ }
+    requires { ⌜ (0 < m → Within r l) ⌝ }
     ensures { λ b. ⌜ b ≡ blockOf (pos r) (pos m) (pos l) ⌝ }
 {
     if m == 0 {
@@ -91,18 +91,22 @@ fn block_above_zero(r: u64, m: u64, l: u64) -> Block
     }
     let low = 2 * r * l;
     let high = 4 * r * l;
+    let end = 6 * r * l;
     if m < low {
         return from_toe(r, m, l);
     }
     if m <= high {
         return full(r, m, l);
     }
-    from_heel(r, m, l)
+    if m < end {
+        return from_heel(r, m, l);
+    }
+    no_block()
 }
 
 // The block that R and M6 make, signed as they are; where M6 is not above 0, there is none.
 fn block_of(totals: Totals, l: u64) -> Block
-    requires { ⌜ (pos 0 ≤ℤ totals .R) × (0 < aboveZero (totals .M6) → Within (aboveZero (totals .R)) (aboveZero (totals .M6)) l) ⌝ }
+    requires { ⌜ (pos 0 ≤ℤ totals .R) × (0 < aboveZero (totals .M6) → Within (aboveZero (totals .R)) l) ⌝ }
     ensures { λ b. ⌜ b ≡ blockOf (totals .R) (totals .M6) (pos l) ⌝ }
 {
     block_above_zero(whole::above_zero(totals.R), whole::above_zero(totals.M6), l)

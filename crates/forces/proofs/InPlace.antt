@@ -6,9 +6,9 @@ use Prim.Native.Nat.{ℕ, zero, suc, _≤_, _<_}
 use native.Mathlib.Omega.{arith}
 use lib.ListN.{getD}
 use Rattle.whole.proofs.Lists.{all-at, of-either}
-use Rattle.rules.specs.JobFile.{Wall, Load, greatestLoad, baseLength, wallHeight, isDown, position, reach}
+use Rattle.rules.specs.JobFile.{Wall, Load, greatestLoad, baseLength, crestHeight, isDown, position, reach}
 use Rattle.rules.specs.Forces.{Component, loadRow, deadRow, liveRow, loadTable}
-use Rattle.rules.proofs.Accepted.{WallWithin, wall-within, longest, base-length, wall-height, LoadWithin, load-within}
+use Rattle.rules.proofs.Accepted.{WallWithin, wall-within, longest, base-length, crest-height, LoadWithin, load-within}
 use Rattle.rules.proofs.Examined.{Suits, Fit, absent-fits}
 use Rattle.forces.specs.Faces.{rowsOf}
 use Rattle.forces.specs.Tables.{LoadsSmall, partRow, rowsIn}
@@ -21,9 +21,9 @@ module _ {wall : Wall} (w : WallWithin wall) (load : Load) (l : LoadWithin wall 
   unfolding reach
   near = go (isDown load) (l .place)
     where
-      go : (b : Bool) → position load ≤ cond b (baseLength wall) (wallHeight wall) → position load ≤ longest
+      go : (b : Bool) → position load ≤ cond b (baseLength wall) (crestHeight wall) → position load ≤ longest
       go true h = omega (arith, base-length w)
-      go false h = omega (arith, wall-height w)
+      go false h = omega (arith, crest-height w)
 
   light : (i : ℕ) → i < 4 → getD load i 0 ≤ greatestLoad
   light zero h = omega arith

@@ -20,7 +20,7 @@ use Rattle.rules.specs.Forces.{Sort, deadWeight, liveWeight, deadPush, livePush
 use Rattle.rules.proofs.Moments.{balances, one-sum}
 use Rattle.rules.proofs.Accepted.{both, every, most}
 use Rattle.rules.proofs.Examined.{Fit}
-use Rattle.rules.proofs.Sizes.{none, cells-small}
+use Rattle.rules.proofs.Sizes.{greatestCell, none, cells-small}
 use Rattle.forces.specs.Faces.{rowsOf}
 use Rattle.forces.specs.Tables.{components, onStem, stemInPlace}
 use Rattle.forces.proofs.Cells.{SmallCells, stem-cells}
@@ -104,7 +104,7 @@ sorted loads i = rw (← of-wall 0 [] loads, place-at (table 0 [] loads) i) (bel
 -- with as many loads as there may be, there are as many as the table has rows
 pub sorts-length : (loads : List Load) → length loads ≡ mostLoadsOnWall → length (sortsOf loads) ≡ components
 unfolding sortsOf
-sorts-length loads eight = joined-length firstSorts (byWay 0 2) (byWay 1 3) loads 10 8 refl eight
+sorts-length loads eight = joined-length firstSorts (byWay 0 2) (byWay 1 3) loads 11 8 refl eight
 
 -- ---- the tables of a wall that fits with its loads
 -- components of the sorts that the loads give, with no cell that is great
@@ -157,7 +157,7 @@ all-light {weights} t = record { each = λ i. light (every-at (every isLight) []
 
 module _ {rows : List (List ℤ)} {sorts : List ℕ} {weights : List ℤ} (small : Small rows sorts) (light : Light weights) (column : ℕ) where
   -- the sum of the first n rows
-  pub sum-within : (n : ℕ) → natAbs (sumTo (weighted rows sorts weights column) n) ≤ n * 1600000000000
+  pub sum-within : (n : ℕ) → natAbs (sumTo (weighted rows sorts weights column) n) ≤ n * (16 * greatestCell)
   sum-within n =
       sumTo-abs (weighted rows sorts weights column) n
       (λ i h. abs-weighted (getD weights (getD sorts i 0) (pos 0)) (getD (getD rows i []) column (pos 0)) (light .at-most (getD sorts i 0)) (small .cells i column))

@@ -10,6 +10,7 @@ use Rattle.rules.specs.JobFile.{Load, isDown}
 use Rattle.forces.specs.Tables.{components}
 use Rattle.rules.specs.Forces.{Sort, deadWeight, liveWeight, deadPush, livePush, vertical, horizontal, moment, restores, overturns}
 use Rattle.rules.proofs.Moments.{balances}
+use Rattle.rules.proofs.Sizes.{greatestCell}
 
 -- a sort's place among the weights
 abbrev pub placeOf : Sort → ℕ
@@ -23,7 +24,7 @@ weightsOf weight = weight deadWeight ∷ weight liveWeight ∷ weight deadPush �
 
 -- the sorts of the weights and pushes
 abbrev pub firstSorts : List ℕ
-firstSorts = 0 ∷ 0 ∷ 0 ∷ 0 ∷ 1 ∷ 3 ∷ 2 ∷ 2 ∷ 2 ∷ 2 ∷ []
+firstSorts = 0 ∷ 0 ∷ 0 ∷ 0 ∷ 0 ∷ 1 ∷ 3 ∷ 2 ∷ 2 ∷ 2 ∷ 2 ∷ []
 
 -- the one for a load down, the other for a load across
 abbrev pub byWay : ℕ → ℕ → Load → ℕ
@@ -42,7 +43,7 @@ weightedSum table sorts weights column = sumTo (weighted table sorts weights col
 
 -- small enough for every sum to fit
 pub record Small (table : List (List ℤ)) (sorts : List ℕ) : Type 0 where
-  pub cells : (i j : ℕ) → natAbs (getD (getD table i []) j (pos 0)) ≤ 100000000000
+  pub cells : (i j : ℕ) → natAbs (getD (getD table i []) j (pos 0)) ≤ greatestCell
   pub sorted : (i : ℕ) → getD sorts i 0 < 4
 
 -- weights of at most 16, and lists of them

@@ -1,5 +1,5 @@
 -- The component tables as the code fills them, each with as many rows as any of them can have. What a table doesn't have is a row of zeros.
-use Prim.Native.Nat.{ℕ, _-_, _*_, _≤_, _<_}
+use Prim.Native.Nat.{ℕ, _+_, _-_, _*_, _≤_, _<_}
 use mathlib.Core.Bool.{Bool, not, _||_, cond}
 use mathlib.Core.List.{List, [], _∷_, _++_, map}
 use lib.Dec.{ltb}
@@ -11,11 +11,14 @@ use Rattle.rules.proofs.Accepted.{longest}
 
 -- how many components a wall has, with as many loads as it may have
 abbrev pub components : ℕ
-components = 26
+components = 27
 
--- how many of them are weights and pushes
+-- how many of them are weights, and how many are weights and pushes
+abbrev pub weightsCount : ℕ
+weightsCount = 6
+
 abbrev pub ownRows : ℕ
-ownRows = 10
+ownRows = weightsCount + 5
 
 -- ---- rows
 
@@ -58,11 +61,11 @@ nothing sort = record { sort = sort; row = noRow }
 
 -- where a wall's table has the weights
 abbrev pub noWeights : List Component
-noWeights = nothing deadWeight ∷ nothing deadWeight ∷ nothing deadWeight ∷ nothing deadWeight ∷ nothing liveWeight ∷ []
+noWeights = nothing deadWeight ∷ nothing deadWeight ∷ nothing deadWeight ∷ nothing deadWeight ∷ nothing deadWeight ∷ nothing liveWeight ∷ []
 
 -- the rules' table of the stem, in the places that a wall's table has
 unfoldable pub stemInPlace : Wall → List Load → List Component
 stemInPlace wall loads =
     noWeights
-    ++ pushRows wall (restCoefficient wall) (stemHeight wall) (saturatedHeight wall)
+    ++ pushRows wall (restCoefficient wall) (stemHeight wall) (saturatedHeight wall) 0
     ++ loadTable (map (onStem (baseThickness wall)) loads)

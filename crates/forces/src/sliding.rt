@@ -3,6 +3,7 @@ use crate::units::PER_SQUARE_AT_K;
 use crate::units::THOUSANDTHS;
 use record::BASE_THICKNESS;
 use record::COVER_IN_FRONT;
+use record::DOWNSTAND_DEPTH;
 use record::EXCAVATION;
 use record::FRICTION_TANGENT;
 use record::KIND;
@@ -25,7 +26,9 @@ fn passive_force(wall: Wall) -> u64
     requires { ⌜ T (wallFits wall) ⌝ }
     ensures { λ r. ⌜ r ≡ passive wall ⌝ }
 {
-    let covered = record::field(wall, COVER_IN_FRONT) + record::field(wall, BASE_THICKNESS);
+    let covered = record::field(wall, COVER_IN_FRONT)
+        + record::field(wall, BASE_THICKNESS)
+        + record::field(wall, DOWNSTAND_DEPTH);
     let depth = whole::excess(covered, record::field(wall, EXCAVATION));
     whole::rounded_down(
         record::field(wall, PASSIVE_COEFFICIENT)

@@ -69,7 +69,7 @@ fn loads_on_stem(wall: Wall, loads: Loads) -> Loads
     on
 }
 
-// The stem's table: pushes at K0 on the stem's height, with the water that stands above the base's top.
+// The stem's table: pushes at K0 on the stem's height, with the water that stands above the base's top. Its foot is there, and a downstand lies below it.
 fn table_of_stem(wall: Wall, loads: Loads) -> table::Table
     requires { ⌜ T (fits wall loads) ⌝ }
     ensures { λ r. ⌜ r ≡ rowsOf (stemInPlace wall loads) ⌝ }
@@ -79,6 +79,7 @@ fn table_of_stem(wall: Wall, loads: Loads) -> table::Table
         record::field(wall, REST_COEFFICIENT),
         record::field(wall, STEM_HEIGHT),
         weights::saturated_height(wall),
+        0,
     );
     table::filled(rows::NO_WEIGHTS, pushes, loads_on_stem(wall, loads))
 }

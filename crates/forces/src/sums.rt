@@ -66,9 +66,10 @@ pub const HORIZONTAL: usize = 1;
 
 pub const MOMENT: usize = 2;
 
-// The sorts of the weights and pushes: stem, base and the two fills, surcharge; then its push, and those of earth and water. The rest is room for the
+// The sorts of the weights and pushes: stem, base, downstand and the two fills, surcharge; then its push, and those of earth and water. The rest is room for the
 // sorts of the loads.
 const SORTS: Sorts = [
+    DEAD_WEIGHT,
     DEAD_WEIGHT,
     DEAD_WEIGHT,
     DEAD_WEIGHT,

@@ -8,6 +8,7 @@ use crate::rows::WEIGHTS;
 use crate::rows::WeightRows;
 use record::DEAD;
 use record::DIRECTION;
+use record::DOWNSTAND_DEPTH;
 use record::LIVE;
 use record::Load;
 use record::Loads;
@@ -24,7 +25,7 @@ ghost use Rattle.rules.specs.Forces.{table};
 ghost use Rattle.rules.specs.Beyond.{fits};
 ghost use Rattle.rules.proofs.Accepted.{most};
 ghost use Rattle.forces.specs.Faces.{rowsOf};
-ghost use Rattle.forces.specs.Tables.{ownRows, LoadSmall, LoadsSmall, partRow, rowsIn};
+ghost use Rattle.forces.specs.Tables.{weightsCount, ownRows, LoadSmall, LoadsSmall, partRow, rowsIn};
 
 pub const FIRST_DEAD: usize = WEIGHTS + PUSHES;
 
@@ -50,17 +51,27 @@ fn load_row(load: Load, part: usize) -> Row
     if load[DIRECTION] == 0 {
         rows::down(force, sixfold)
     } else {
-        rows::across(force, sixfold)
+        rows::across(force, sixfold, 0)
     }
 }
 
-// The weights, and behind them as many pushes; where the rows of the loads come there is nothing yet.
-fn own_rows(weights: WeightRows, pushes: PushRows) -> Table
-    ensures { λ r. ⌜ take ownRows r ≡ weights ++ pushes ⌝ }
+// The weights; where the other rows come there is nothing yet.
+fn weights_first(weights: WeightRows) -> Table
+    ensures { λ r. ⌜ take weightsCount r ≡ weights ⌝ }
 {
     let mut table = [[0i64; 3]; COMPONENTS];
     for i in 0..WEIGHTS {
         table[i] = weights[i];
+    }
+    table
+}
+
+// And behind them the pushes.
+fn own_rows(weights: WeightRows, pushes: PushRows) -> Table
+    ensures { λ r. ⌜ take ownRows r ≡ weights ++ pushes ⌝ }
+{
+    let mut table = weights_first(weights);
+    for i in 0..PUSHES {
         table[WEIGHTS + i] = pushes[i];
     }
     table
@@ -90,6 +101,7 @@ pub fn of_wall(wall: Wall, loads: Loads, k: u64) -> Table
         k,
         record::wall_height(wall),
         record::field(wall, WATER_HEIGHT),
+        record::field(wall, DOWNSTAND_DEPTH),
     );
     filled(rows::weight_rows(wall), pushes, loads)
 }

@@ -2,6 +2,8 @@
 use crate::units::PER_AREA;
 use record::BASE_DENSITY;
 use record::BASE_THICKNESS;
+use record::DOWNSTAND_DEPTH;
+use record::DOWNSTAND_THICKNESS;
 use record::HEEL_LENGTH;
 use record::MOIST_DENSITY;
 use record::SATURATED_DENSITY;
@@ -17,7 +19,7 @@ ghost use Prim.Native.Nat.{_*_, _≤_};
 ghost use lib.Dec.{T};
 ghost use Rattle.whole.specs.Rounding.{roundedNearest};
 ghost use Rattle.rules.specs.JobFile.{wallFits};
-ghost use Rattle.rules.specs.Forces.{perVolume, saturatedHeight, stemWeight, baseWeight, saturatedWeight, moistWeight, surchargeWeight};
+ghost use Rattle.rules.specs.Forces.{perVolume, saturatedHeight, stemWeight, baseWeight, downstandWeight, saturatedWeight, moistWeight, surchargeWeight};
 ghost use Rattle.rules.specs.ToeAndStem.{fillOnHeel};
 
 // 1.4 and 1.6, in tenths.
@@ -37,10 +39,8 @@ fn slab_weight(a: u64, b: u64, density: u64) -> u64
 pub fn saturated_height(wall: Wall) -> u64
     ensures { λ r. ⌜ r ≡ saturatedHeight wall ⌝ }
 {
-    whole::excess(
-        record::field(wall, WATER_HEIGHT),
-        record::field(wall, BASE_THICKNESS),
-    )
+    let base_top = record::field(wall, BASE_THICKNESS) + record::field(wall, DOWNSTAND_DEPTH);
+    whole::excess(record::field(wall, WATER_HEIGHT), base_top)
 }
 
 pub fn stem_weight(wall: Wall) -> u64
@@ -61,6 +61,18 @@ pub fn base_weight(wall: Wall) -> u64
     slab_weight(
         record::base_length(wall),
         record::field(wall, BASE_THICKNESS),
+        record::field(wall, BASE_DENSITY),
+    )
+}
+
+// Of the base's concrete.
+pub fn downstand_weight(wall: Wall) -> u64
+    requires { ⌜ T (wallFits wall) ⌝ }
+    ensures { λ r. ⌜ r ≡ downstandWeight wall ⌝ }
+{
+    slab_weight(
+        record::field(wall, DOWNSTAND_DEPTH),
+        record::field(wall, DOWNSTAND_THICKNESS),
         record::field(wall, BASE_DENSITY),
     )
 }

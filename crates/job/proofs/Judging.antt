@@ -10,7 +10,7 @@ use lib.Dec.{T, ltb, eqb}
 use lib.ListN.{length}
 use Rattle.rules.specs.declared.Answer.{Answer}
 use Rattle.rules.specs.declared.Answer.the-variants.{Worked, TooShort, WrongEdition, CountOutOfRange, WrongOffset, WrongLength}
-use Rattle.rules.specs.JobFile.{File, Wall, Load, Entry, baseLength, wallHeight, reach, loadFits, headerBytes, thisEdition, edition, wallCount, mostWalls, recordsFrom, walls, entries, wallOf, loadsOn}
+use Rattle.rules.specs.JobFile.{File, Wall, Load, Entry, baseLength, crestHeight, reach, loadFits, headerBytes, thisEdition, edition, wallCount, mostWalls, recordsFrom, walls, entries, wallOf, loadsOn}
 use Rattle.rules.specs.Answered.{isWorked, refusedIf, _orElse_, countsFit, offsetsFit, lengthFits, wallAnswer, firstBadWall, entryFits, isOneMore, firstBadLoad, firstRefusal}
 use Rattle.rules.proofs.AcceptedFile.{first-worked, passes, walls-counted}
 use Rattle.job.specs.Lengths.{lengthsOf}
@@ -105,7 +105,7 @@ no-wall-passed wallAt n = none-passed (walls-from wallAt 0 n)
 
 -- a load fits a wall exactly where it fits the wall's lengths
 pub by-lengths : (wall : Wall) (load : Load) → loadFits (lengthsOf wall) load ≡ loadFits wall load
-unfolding lengthsOf baseLength wallHeight reach loadFits
+unfolding lengthsOf baseLength crestHeight reach loadFits
 by-lengths wall load = refl
 
 -- what is answered of the load at an index, against the walls that are there

@@ -24,7 +24,7 @@ ghost use Rattle.rules.specs.WrittenFile.{TakesApart};
 ghost use Rattle.job.specs.Places.{placeTable, loadsAt};
 
 // The edition that is read and written.
-pub const EDITION: u16 = 1;
+pub const EDITION: u16 = 2;
 
 pub const HEADER_BYTES: usize = 12;
 

@@ -8,6 +8,9 @@ field = (λ _ _. tt, λ _ _ _ _ _ _ is its. by-equation (is .0) (its .0))
 pub base-length : Once record′.base_length.ended record′.base_length.Reads.Asked record′.base_length.Reads.Learnt
 base-length = (λ _ _. tt, λ _ _ _ _ _ _. by-equation)
 
+pub crest-height : Once record′.crest_height.ended record′.crest_height.Reads.Asked record′.crest_height.Reads.Learnt
+crest-height = (λ _ _. tt, λ _ _ _ _ _ _. by-equation)
+
 pub wall-height : Once record′.wall_height.ended record′.wall_height.Reads.Asked record′.wall_height.Reads.Learnt
 wall-height = (λ _ _. tt, λ _ _ _ _ _ _. by-equation)
 

@@ -5,12 +5,13 @@ use rules::Range;
 ghost use mathlib.Core.Path.{_≡_};
 ghost use Prim.Native.Nat.{_<_, _^_};
 ghost use lib.ListN.{getD};
-ghost use Rattle.rules.specs.JobFile.{Wall, baseLength, wallHeight, bars, among, within, firstBadField, loadOf, reach, loadFits};
+ghost use Rattle.rules.specs.JobFile.{Wall, baseLength, crestHeight, wallHeight, bars, among, within, firstBadField, loadOf, reach, loadFits};
 ghost use Rattle.rules.specs.Answered.{wallAnswer};
 ghost use Rattle.rules.specs.Beyond.{loadAnswer, firstUnfit, examined};
+ghost use Rattle.record.specs.Measured.{measuresOf};
 
 // A wall is a number for each of its fields, in file order.
-pub const FIELDS: usize = 35;
+pub const FIELDS: usize = 38;
 
 pub type Wall = [u32; FIELDS];
 
@@ -88,6 +89,12 @@ pub const HEEL_SPACING: usize = 33;
 
 pub const HEEL_STRESS: usize = 34;
 
+pub const DOWNSTAND_DEPTH: usize = 35;
+
+pub const DOWNSTAND_POSITION: usize = 36;
+
+pub const DOWNSTAND_THICKNESS: usize = 37;
+
 // A load is its direction, its position, its dead and its live part.
 pub const LOAD_FIELDS: usize = 4;
 
@@ -133,7 +140,7 @@ pub const COUNTS: usize = MOST_WALLS + 1;
 
 pub type Counts = [u32; COUNTS];
 
-// The range of each field, in field order: a row for each of document 01's, and behind them the heel's four.
+// The range of each field, in field order: a row for each of document 01's, and behind them the heel's four and the downstand's three.
 const RANGES: [Range; FIELDS] = [
     Range::Between(0, 1),
     Range::Between(500, 8000),
@@ -170,6 +177,9 @@ const RANGES: [Range; FIELDS] = [
     Range::ABar, // heel bar
     Range::Between(50, 500), // heel spacing
     Range::Between(1, 5000), // heel stress
+    Range::Between(0, 1000), // downstand depth
+    Range::AlongBase, // downstand position
+    Range::UnderBase(100, 1500), // downstand thickness
 ];
 
 // The greatest dead load, and the greatest live load, in N/m.
@@ -195,11 +205,18 @@ pub fn base_length(wall: Wall) -> u64
     field(wall, TOE_LENGTH) + field(wall, STEM_THICKNESS) + field(wall, HEEL_LENGTH)
 }
 
-// The wall's height h: stem and base.
+// How high the crest stands above the base's underside: stem and base.
+pub fn crest_height(wall: Wall) -> u64
+    ensures { λ r. ⌜ r ≡ crestHeight wall ⌝ }
+{
+    field(wall, STEM_HEIGHT) + field(wall, BASE_THICKNESS)
+}
+
+// The wall's height h: the downstand is part of it.
 pub fn wall_height(wall: Wall) -> u64
     ensures { λ r. ⌜ r ≡ wallHeight wall ⌝ }
 {
-    field(wall, STEM_HEIGHT) + field(wall, BASE_THICKNESS)
+    crest_height(wall) + field(wall, DOWNSTAND_DEPTH)
 }
 
 fn is_bar(n: u32) -> bool
@@ -213,13 +230,42 @@ fn is_bar(n: u32) -> bool
     false
 }
 
-// Is a number within a range of any wall with its top at this height?
-fn is_within(top: u64, range: Range, n: u32) -> bool
-    ensures { λ r. ⌜ ((wall : Wall) → top ≡ wallHeight wall → r ≡ within wall range n) ⌝ }
+// What a wall's ranges go by: its height, its base's length, and the depth and position of its downstand.
+struct Measures {
+    height: u64,
+    length: u64,
+    depth: u32,
+    position: u32,
+}
+
+fn measures_of(wall: Wall) -> Measures
+    ensures { λ r. ⌜ r ≡ measuresOf wall ⌝ }
+{
+    Measures {
+        height: wall_height(wall),
+        length: base_length(wall),
+        depth: wall[DOWNSTAND_DEPTH],
+        position: wall[DOWNSTAND_POSITION],
+    }
+}
+
+// Is a number within a range of any wall with these measures?
+fn is_within(measures: Measures, range: Range, n: u32) -> bool
+    ensures { λ r. ⌜ ((wall : Wall) → measures ≡ measuresOf wall → r ≡ within wall range n) ⌝ }
 {
     match range {
         Range::Between(low, high) => low <= n && n <= high,
-        Range::UpToTop => n as u64 <= top,
+        Range::UpToTop => n as u64 <= measures.height,
+        Range::AlongBase => if 0 < measures.depth {
+            n as u64 <= measures.length
+        } else {
+            n == 0
+        },
+        Range::UnderBase(low, high) => if 0 < measures.depth {
+            (low <= n) & (n <= high) & (measures.position as u64 + n as u64 <= measures.length)
+        } else {
+            n == 0
+        },
         Range::ABar => is_bar(n),
     }
 }
@@ -229,9 +275,9 @@ fn first_bad_field(wall: Wall) -> u16
     ensures { λ r. ⌜ r ≡ firstBadField wall ⌝ }
 {
     let ranges = RANGES;
-    let top = wall_height(wall);
+    let measures = measures_of(wall);
     for i in 0..FIELDS {
-        if !is_within(top, ranges[i], wall[i]) {
+        if !is_within(measures, ranges[i], wall[i]) {
             return i as u16 + 1;
         }
     }
@@ -257,7 +303,7 @@ fn reach_of(wall: Wall, load: Load) -> u64
     if load[DIRECTION] == 0 {
         base_length(wall)
     } else {
-        wall_height(wall)
+        crest_height(wall)
     }
 }
 

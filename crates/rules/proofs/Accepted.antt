@@ -1,4 +1,4 @@
--- What it tells of a wall that its fields fit: each of the 35 lies in its range. One law serves all of them, since the ranges stand in a table.
+-- What it tells of a wall that its fields fit: each of the 38 lies in its range. One law serves all of them, since the ranges stand in a table.
 -- And what it tells of a load that it fits its wall.
 use mathlib.Core.Path.{_≡_, refl, sym, subst}
 use mathlib.Core.Bool.{Bool, true, false, _&&_, _||_, cond, and-eq-true-iff}
@@ -10,8 +10,8 @@ use lib.Ieee.Bits.{is-true}
 use lib.ListN.{length, getD}
 use borrow.Author.Tests.{leb-true, le-leb}
 use Rattle.rules.specs.declared.Range.{Range}
-use Rattle.rules.specs.declared.Range.the-variants.{Between, UpToTop, ABar}
-use Rattle.rules.specs.JobFile.{Wall, Load, wallFields, bars, among, within, baseLength, wallHeight, excavation, surcharge, field, ranges, firstOutside, firstBadField, wallFits, direction, position, deadLoad, liveLoad, greatestLoad, reach, loadFits}
+use Rattle.rules.specs.declared.Range.the-variants.{Between, UpToTop, AlongBase, UnderBase, ABar}
+use Rattle.rules.specs.JobFile.{Wall, Load, wallFields, bars, among, hasDownstand, within, baseLength, crestHeight, wallHeight, excavation, surcharge, downstandPosition, downstandThickness, field, ranges, firstOutside, firstBadField, wallFits, direction, position, deadLoad, liveLoad, greatestLoad, reach, loadFits}
 use Rattle.rules.specs.ToeAndStem.{barAreas}
 
 -- ---- tests
@@ -68,18 +68,24 @@ Lies low high n = (low ≤ n) × (n ≤ high)
 abbrev pub InRange : Wall → Range → ℕ → Type 0
 InRange wall (Between low high) n = Lies low high n
 InRange wall UpToTop n = n ≤ wallHeight wall
+InRange wall AlongBase n = T (within wall AlongBase n)
+InRange wall (UnderBase low high) n = T (within wall (UnderBase low high) n)
 InRange wall ABar n = T (among n bars)
 
 pub in-range : (wall : Wall) (range : Range) (n : ℕ) → T (within wall range n) → InRange wall range n
 unfolding within
 in-range wall (Between low high) n t = omega (arith, leb-true, simp and-eq-true-iff at (is-true (leb low n && leb n high) t))
 in-range wall UpToTop n t = leb→le n (wallHeight wall) t
+in-range wall AlongBase n t = t
+in-range wall (UnderBase low high) n t = t
 in-range wall ABar n t = t
 
 pub within-range : (wall : Wall) (range : Range) (n : ℕ) → InRange wall range n → T (within wall range n)
 unfolding within
 within-range wall (Between low high) n lies = rw (le-leb low n (lies .0), le-leb n high (lies .1)) tt
 within-range wall UpToTop n below = le→leb n (wallHeight wall) below
+within-range wall AlongBase n t = t
+within-range wall (UnderBase low high) n t = t
 within-range wall ABar n t = t
 
 -- the range of a field, by its number, and what is known of the field
@@ -101,18 +107,20 @@ thickest = getD bars (length bars - 1) 0
 abbrev pub highest : Range → ℕ
 highest (Between low high) = high
 highest UpToTop = 0
+highest AlongBase = 0
+highest (UnderBase low high) = high
 highest ABar = thickest
 
--- the greatest that a field can be, by its number; field 9 has no number of its own
+-- the greatest that a field can be, by its number; fields 9 and 37 have no number of their own
 abbrev pub most : ℕ → ℕ
 most number = highest (rangeOf number)
 
--- the longest base has a toe, a stem and a heel of the greatest lengths, the highest wall such a stem and base
+-- the longest base has a toe, a stem and a heel of the greatest lengths, the highest wall such a stem, base and downstand; its crest stands no higher above the base than stem and base allow
 abbrev pub longest : ℕ
 longest = most 4 + most 3 + most 5
 
 abbrev pub tallest : ℕ
-tallest = most 2 + most 6
+tallest = most 2 + most 6 + most 36
 
 -- no bar is thicker than the thickest, and each diameter has an area
 pub bar-most : (bar : ℕ) → T (among bar bars) → bar ≤ thickest
@@ -120,6 +128,19 @@ bar-most bar t = leb→le bar thickest (among-has (λ n. leb n thickest) bar bar
 
 pub areas-for-bars : length barAreas ≡ length bars
 areas-for-bars = refl
+
+-- a downstand stands under the base; without one, both of its fields are 0
+abbrev pub Downstand : Wall → Type 0
+Downstand wall = (downstandThickness wall ≤ most 38) × (downstandPosition wall + downstandThickness wall ≤ baseLength wall)
+
+downstand-within : (wall : Wall) → Ranged wall 37 → Ranged wall 38 → Downstand wall
+unfolding within
+downstand-within wall along under = go (downstandPosition wall) (downstandThickness wall) (hasDownstand wall) along under
+  where
+    go : (ld td : ℕ) (has : Bool) → T (cond has (leb ld (baseLength wall)) (eqb ld 0))
+        → T (cond has (leb 100 td && leb td (most 38) && leb (ld + td) (baseLength wall)) (eqb td 0)) → (td ≤ most 38) × (ld + td ≤ baseLength wall)
+    go ld td true a u = omega (arith, leb-true, simp and-eq-true-iff at (is-true (leb 100 td && leb td (most 38) && leb (ld + td) (baseLength wall)) u))
+    go ld td false a u = omega (arith, eqb→eq ld 0 a, eqb→eq td 0 u)
 
 -- the fields of a wall that its forces read, each in its range
 pub record WallWithin (wall : Wall) : Type 0 where
@@ -141,6 +162,8 @@ pub record WallWithin (wall : Wall) : Type 0 where
   pub passive : Ranged wall 17
   pub tangent : Ranged wall 18
   pub surcharge : Ranged wall 20
+  pub downstand-depth : Ranged wall 36
+  pub downstand : Downstand wall
 
 pub wall-within : (wall : Wall) → T (wallFits wall) → WallWithin wall
 wall-within wall fits =
@@ -164,6 +187,8 @@ wall-within wall fits =
       passive = of 17 tt;
       tangent = of 18 tt;
       surcharge = of 20 tt;
+      downstand-depth = of 36 tt;
+      downstand = downstand-within wall (of 37 tt) (of 38 tt);
     }
 
 -- the base's length and the wall's height, by those of their parts
@@ -172,8 +197,12 @@ unfolding baseLength
 base-length w = omega arith
 
 pub wall-height : {wall : Wall} → WallWithin wall → wallHeight wall ≤ tallest
-unfolding wallHeight
+unfolding wallHeight crestHeight
 wall-height w = omega arith
+
+pub crest-height : {wall : Wall} → WallWithin wall → crestHeight wall ≤ tallest
+unfolding crestHeight
+crest-height w = omega arith
 
 -- ---- a load that fits
 

@@ -1,7 +1,7 @@
 -- Document 02, #103: the part of a block behind a section, in whole numbers. What it carries, and what it turns about the section, are fractions of small numbers; with the
 -- part before the section, they make R and M6.
 use mathlib.Core.Path.{_≡_, refl, ap}
-use mathlib.Core.Logic.{_↔_, ⊎-elim, dite}
+use mathlib.Core.Logic.{_↔_, inl, ⊎-elim, dite}
 use mathlib.Core.Bool.{true, false}
 use mathlib.Core.List.{List}
 use Prim.Native.Nat.{ℕ, _+_, _-_, _*_, _≤_, _<_}
@@ -65,37 +65,38 @@ pub data Figures (r m l : ℕ) : Block → Type 0 where
   from-heel : {n : ℕ} → 0 < n → n + m ≡ 6 * r * l → n ≤ l * (2 * r) → Figures r m l (heelTriangle n (2 * r))
   none : Figures r m l noBlock
 
-of-made : (r m l : ℕ) → 0 < r → 0 < m → m < 6 * r * l → (k : Kind) → Makes k (pos r) (pos m) (pos l) → Figures r m l (ofKind k (pos r) (pos m) (pos l))
+of-made : (r m l : ℕ) → 0 < r → 0 < m → (k : Kind) → Makes k (pos r) (pos m) (pos l) → Figures r m l (ofKind k (pos r) (pos m) (pos l))
 unfolding ofKind
-of-made r m l hr hm less Full h =
+of-made r m l hr hm Full h =
     let low = pos-≤ℤ .0 (h .0) in
     let high = pos-≤ℤ .0 (h .1) in
     let t = 4 * r * l - m in
     let g = m - 2 * r * l in
     rw (pos-less (4 * r * l) m t (omega arith), pos-less m (2 * r * l) g (omega arith)) (full {t = t} {g = g} (omega arith) (omega arith))
-of-made r m l hr hm less FromToe h =
+of-made r m l hr hm FromToe h =
     let double : 4 * r * r ≡ 2 * r * (2 * r) = omega arith in rw double (from-toe hm (omega (arith, pos-<ℤ .0 (h .1))))
-of-made r m l hr hm less FromHeel h =
+of-made r m l hr hm FromHeel h =
     let n = 6 * r * l - m in
+    let less = pos-<ℤ .0 (h .1) in
     let double : 4 * r * r ≡ 2 * r * (2 * r) = omega arith in
-    rw (double, pos-less (6 * r * l) m n (omega arith)) (from-heel {n = n} (omega arith) (omega arith) (omega (arith, pos-<ℤ .0 h)))
-of-made r m l hr hm less NoBlock h = none
+    rw (double, pos-less (6 * r * l) m n (omega arith)) (from-heel {n = n} (omega arith) (omega arith) (omega (arith, pos-<ℤ .0 (h .0))))
+of-made r m l hr hm NoBlock h = none
 
 -- so it is of every block that R and M6 make and that is given
-pub given-figures : (scale : ℕ) (R M6 : ℤ) (l : ℕ) → pos 0 <ℤ R → 0 < l → M6 <ℤ (pos 6 *ℤ R *ℤ pos l)
+pub given-figures : (scale : ℕ) (R M6 : ℤ) (l : ℕ) → pos 0 <ℤ R → 0 < l
     → Figures (aboveZero R) (aboveZero M6) l (given scale (blockOf R M6 (pos l)))
 unfolding given blockOf ofKind
-given-figures scale R M6 l hR hl less =
+given-figures scale R M6 l hR hl =
     case (leb (peak scale (blockOf R M6 (pos l))) greatestPeak) _ _ (Figures (aboveZero R) (aboveZero M6) l)
-    (λ low. ⊎-elim (λ h. rw (makes NoBlock .1 h) none) (λ h. made (is-above hR) (is-above h) less (kindOf R M6 (pos l)) (makes _ .0 refl)) (≤ℤ-or-<ℤ M6 (pos 0)))
+    (λ low. ⊎-elim (λ h. rw (makes NoBlock .1 (inl h)) none) (λ h. made (is-above hR) (is-above h) (kindOf R M6 (pos l)) (makes _ .0 refl)) (≤ℤ-or-<ℤ M6 (pos 0)))
     (λ high. none)
   where
     makes : (k : Kind) → (kindOf R M6 (pos l) ≡ k) ↔ Makes k R M6 (pos l)
     makes = kind-makes R M6 (pos l) hR (pos-<ℤ .1 hl)
 
-    made : {R M6 : ℤ} → Above R → Above M6 → M6 <ℤ (pos 6 *ℤ R *ℤ pos l) → (k : Kind) → Makes k R M6 (pos l)
+    made : {R M6 : ℤ} → Above R → Above M6 → (k : Kind) → Makes k R M6 (pos l)
         → Figures (aboveZero R) (aboveZero M6) l (ofKind k R M6 (pos l))
-    made (above r hr) (above m hm) less k h = of-made r m l hr hm (pos-<ℤ .0 less) k h
+    made (above r hr) (above m hm) k h = of-made r m l hr hm k h
 
 -- ---- behind a section that stands i/j from the toe, with k/j left to the heel's end
 
@@ -405,7 +406,7 @@ module _ (wall : Wall) (loads : List Load) (fit : Fit wall loads) where
 
   pub factored-figures : Figures (aboveZero (total .R)) (aboveZero (total .M6)) l block
   unfolding factoredBlock blockUnder
-  factored-figures = let s = factored-sized wall loads fit in given-figures factoredScale (total .R) (total .M6) l (s .some) long (s .on-base)
+  factored-figures = let s = factored-sized wall loads fit in given-figures factoredScale (total .R) (total .M6) l (s .some) long
 
   -- the factored block, cut at any section of the base
   pub block-cut : T (isGiven block) → (i k j : ℕ) → 0 < j → l * j ≡ i + k → Cut (total .R) (total .M6) (pos l) (pos i over pos j) block

@@ -1,8 +1,9 @@
 -- Document 01, "The bearing block": a block that is given is never negative, stays on the base, carries exactly the vertical total at exactly its
--- moment, and no other straight-line block does. The cases of M6 leave nothing out and overlap nowhere, and where M6 isn't above 0 no block would do.
+-- moment, and no other straight-line block does. The cases of M6 leave nothing out and overlap nowhere. Where M6 isn't above 0, or isn't below 6Rl, no block
+-- would do.
 use mathlib.Core.Path.{_≡_, refl, sym, ap, _∙_}
-use mathlib.Core.Logic.{_↔_, ⊎-elim}
-use mathlib.Core.Bool.{Bool, true, false, not, _&&_, cond}
+use mathlib.Core.Logic.{_↔_, _⊎_, inl, inr, ⊎-elim}
+use mathlib.Core.Bool.{Bool, true, false, not, _&&_, _||_, cond}
 use mathlib.Core.List.{List, [], _∷_}
 use Prim.Native.Nat.{ℕ, suc, _+_, _*_, _<_}
 use native.Mathlib.Nat.{mul-pos, mul-lt-mul-of-pos-right, eq-of-mul-eq-mul-right, le-of-mul-le-mul-right, lt-of-mul-lt-mul-right}
@@ -20,11 +21,11 @@ use Rattle.rules.specs.declared.Block.{Block}
 use Rattle.rules.specs.declared.Totals.{Totals}
 use Rattle.rules.specs.JobFile.{Wall, Load, baseLength}
 use Rattle.rules.specs.Forces.{service, factored}
-use Rattle.rules.specs.Bearing.{_over_, overOne, plus, minus, times, Same, Proper, Triangle, HasKind, StraightLine, carried, sixMomentsAs, sixMoments, SameBlock, isNone, isFull, isFromToe, isFromHeel, kindOf, noBlock, ofKind, blockOf, serviceScale, factoredScale, peak, greatestPeak, given, blockUnder, serviceBlock, factoredBlock, isGiven, pressedBy}
+use Rattle.rules.specs.Bearing.{_over_, overOne, plus, minus, times, Same, Proper, Triangle, HasKind, StraightLine, carried, sixMomentsAs, sixMoments, SameBlock, isNone, isFull, isFromToe, isFromHeel, kindOf, noBlock, ofKind, blockOf, serviceScale, factoredScale, peak, greatestPeak, given, blockUnder, serviceBlock, factoredBlock, isGivenKind, isGiven, pressedBy}
 use Rattle.rules.specs.Beyond.{fits, workedForces, forcesOf, workedBearing, bearingOf}
 use Rattle.rules.proofs.Accepted.{wall-within, base-length}
 use Rattle.rules.proofs.Examined.{fit}
-use Rattle.rules.proofs.Sizes.{Sized, heaviest, heaviestFactored, service-sized, factored-sized}
+use Rattle.rules.proofs.Sizes.{service-sized, factored-sized}
 
 -- ---- what is proved of a block
 
@@ -43,8 +44,8 @@ pub record Bears (R M6 l : ℤ) (b : Block) : Type 0 where
 abbrev pub Makes : Kind → ℤ → ℤ → ℤ → Type 0
 Makes Full R M6 l = ((pos 2 *ℤ R *ℤ l) ≤ℤ M6) × (M6 ≤ℤ (pos 4 *ℤ R *ℤ l))
 Makes FromToe R M6 l = (pos 0 <ℤ M6) × (M6 <ℤ (pos 2 *ℤ R *ℤ l))
-Makes FromHeel R M6 l = (pos 4 *ℤ R *ℤ l) <ℤ M6
-Makes NoBlock R M6 l = M6 ≤ℤ pos 0
+Makes FromHeel R M6 l = ((pos 4 *ℤ R *ℤ l) <ℤ M6) × (M6 <ℤ (pos 6 *ℤ R *ℤ l))
+Makes NoBlock R M6 l = (M6 ≤ℤ pos 0) ⊎ ((pos 6 *ℤ R *ℤ l) ≤ℤ M6)
 
 -- how many tests are passed
 abbrev pub trues : List Bool → ℕ
@@ -164,54 +165,75 @@ full-carries (above R hR) (above l hl) (whole a) (whole b) e f =
 -- ---- the cases
 
 abbrev tests : ℤ → ℤ → ℤ → List Bool
-tests R M6 l = isNone M6 ∷ isFull R M6 l ∷ isFromToe R M6 l ∷ isFromHeel R M6 l ∷ []
+tests R M6 l = isNone R M6 l ∷ isFull R M6 l ∷ isFromToe R M6 l ∷ isFromHeel R M6 l ∷ []
 
--- 0, 2Rl and 4Rl stand in this order
-spread : {R l : ℤ} → Above R → Above l
-    → (pos 0 <ℤ (pos 2 *ℤ R *ℤ l)) × ((pos 2 *ℤ R *ℤ l) ≤ℤ (pos 4 *ℤ R *ℤ l)) × (pos 0 <ℤ (pos 4 *ℤ R *ℤ l))
-spread (above R hR) (above l hl) = let h = mul-pos hR hl in (pos-<ℤ .1 (omega arith), pos-≤ℤ .1 (omega arith), pos-<ℤ .1 (omega arith))
+-- 0, 2Rl, 4Rl and 6Rl stand in this order
+abbrev Order : ℤ → ℤ → Type 0
+Order R l =
+    (pos 0 <ℤ (pos 2 *ℤ R *ℤ l)) × ((pos 2 *ℤ R *ℤ l) <ℤ (pos 4 *ℤ R *ℤ l)) × ((pos 4 *ℤ R *ℤ l) <ℤ (pos 6 *ℤ R *ℤ l)) × (pos 0 <ℤ (pos 4 *ℤ R *ℤ l))
+    × (pos 0 <ℤ (pos 6 *ℤ R *ℤ l))
 
--- M6 is above 4Rl where 6Rl − M6 is less than 2Rl
-across : (M6 : ℤ) {R l : ℤ} → Above R → Above l → (pos 6 *ℤ R *ℤ l -ℤ M6) <ℤ (pos 2 *ℤ R *ℤ l) ↔ (pos 4 *ℤ R *ℤ l) <ℤ M6
+spread : {R l : ℤ} → Above R → Above l → Order R l
+spread (above R hR) (above l hl) =
+    let h = mul-pos hR hl in (pos-<ℤ .1 (omega arith), pos-<ℤ .1 (omega arith), pos-<ℤ .1 (omega arith), pos-<ℤ .1 (omega arith), pos-<ℤ .1 (omega arith))
+
+-- M6 makes a triangle from the heel where 6Rl − M6 makes one from the toe
+across : (M6 : ℤ) {R l : ℤ} → Above R → Above l → Makes FromToe R (pos 6 *ℤ R *ℤ l -ℤ M6) l ↔ Makes FromHeel R M6 l
 across M6 (above R hR) (above l hl) =
-    let n = diff-sub (itself (pos (6 * R * l))) (itself M6) in
-    (λ h. diff-lt _ _ (itself _) (itself _) (omega (arith, lt-diff _ _ n (itself _) h)), λ h. diff-lt _ _ n (itself _) (omega (arith, lt-parts h)))
+    let n = diff-sub (itself (pos (6 * R * l))) (itself M6) in (
+      λ h. (
+        diff-lt _ _ (itself _) (itself _) (omega (arith, lt-diff _ _ n (itself _) (h .1))),
+        diff-lt _ _ (itself _) (itself _) (omega (arith, lt-diff _ _ (itself (pos 0)) n (h .0))),
+      ),
+      λ h. (diff-lt _ _ (itself _) n (omega (arith, lt-parts (h .1))), diff-lt _ _ n (itself _) (omega (arith, lt-parts (h .0)))),
+    )
 
 -- R and M6 make a block of some kind, or none
 made : (R M6 l : ℤ) → (k : Kind) × Makes k R M6 l
 made R M6 l =
-    ⊎-elim (λ none. (NoBlock, none))
-    (λ some. ⊎-elim (λ h. ⊎-elim (λ k. (Full, (h, k))) (λ k. (FromHeel, k)) (≤ℤ-or-<ℤ M6 (pos 4 *ℤ R *ℤ l))) (λ h. (FromToe, (some, h)))
+    ⊎-elim (λ none. (NoBlock, inl none))
+    (λ some. ⊎-elim
+    (λ h. ⊎-elim (λ k. (Full, (h, k))) (λ k. ⊎-elim (λ far. (NoBlock, inr far)) (λ near. (FromHeel, (k, near))) (≤ℤ-or-<ℤ (pos 6 *ℤ R *ℤ l) M6))
+    (≤ℤ-or-<ℤ M6 (pos 4 *ℤ R *ℤ l)))
+    (λ h. (FromToe, (some, h)))
     (≤ℤ-or-<ℤ (pos 2 *ℤ R *ℤ l) M6))
     (≤ℤ-or-<ℤ M6 (pos 0))
 
 module _ (R M6 l : ℤ) (hR : pos 0 <ℤ R) (hl : pos 0 <ℤ l) where
-  order : (pos 0 <ℤ (pos 2 *ℤ R *ℤ l)) × ((pos 2 *ℤ R *ℤ l) ≤ℤ (pos 4 *ℤ R *ℤ l)) × (pos 0 <ℤ (pos 4 *ℤ R *ℤ l))
+  order : Order R l
   order = spread (is-above hR) (is-above hl)
 
-  -- the three tests that are not strict decide the others
-  decided : (n f g : Bool) → leZ M6 (pos 0) ≡ n → leZ (pos 2 *ℤ R *ℤ l) M6 ≡ f → leZ M6 (pos 4 *ℤ R *ℤ l) ≡ g
-      → (kindOf R M6 l ≡ cond n NoBlock (cond (f && g) Full (cond (not n && not f) FromToe (cond (not g) FromHeel NoBlock))))
-      × (trues (tests R M6 l) ≡ trues (n ∷ (f && g) ∷ (not n && not f) ∷ not g ∷ []))
+  -- the four tests that are not strict decide the others
+  decided : (n f g e : Bool) → leZ M6 (pos 0) ≡ n → leZ (pos 2 *ℤ R *ℤ l) M6 ≡ f → leZ M6 (pos 4 *ℤ R *ℤ l) ≡ g → leZ (pos 6 *ℤ R *ℤ l) M6 ≡ e
+      → (kindOf R M6 l ≡ cond (n || e) NoBlock (cond (f && g) Full (cond (not n && not f) FromToe (cond (not g && not e) FromHeel NoBlock))))
+      × (trues (tests R M6 l) ≡ trues ((n || e) ∷ (f && g) ∷ (not n && not f) ∷ (not g && not e) ∷ []))
   unfolding kindOf isNone isFull isFromToe isFromHeel
-  decided n f g hn hf hg =
-      let all : tests R M6 l ≡ n ∷ (f && g) ∷ (not n && not f) ∷ not g ∷ [] =
-      rw (ltZ-leZ (pos 0) M6, ltZ-leZ M6 (pos 2 *ℤ R *ℤ l), ltZ-leZ (pos 4 *ℤ R *ℤ l) M6, hn, hf, hg) in
+  decided n f g e hn hf hg he =
+      let all : tests R M6 l ≡ (n || e) ∷ (f && g) ∷ (not n && not f) ∷ (not g && not e) ∷ [] =
+      rw (ltZ-leZ (pos 0) M6, ltZ-leZ M6 (pos 2 *ℤ R *ℤ l), ltZ-leZ (pos 4 *ℤ R *ℤ l) M6, ltZ-leZ M6 (pos 6 *ℤ R *ℤ l), hn, hf, hg, he) in
       (cc, ap trues all)
 
   -- the kind that is made is the one that is chosen, by the one test that is passed
   chosen : (k : Kind) → Makes k R M6 l → (kindOf R M6 l ≡ k) × (trues (tests R M6 l) ≡ 1)
-  chosen Full h = decided false true true (lt-leZ (<ℤ-≤ℤ-trans (order .0) (h .0))) (le-leZ (h .0)) (le-leZ (h .1))
-  chosen FromToe h = decided false false true (lt-leZ (h .0)) (lt-leZ (h .1)) (le-leZ (≤ℤ-trans (≤ℤ-of-<ℤ (h .1)) (order .1)))
-  chosen FromHeel h = decided false true false (lt-leZ (<ℤ-trans (order .2) h)) (le-leZ (≤ℤ-trans (order .1) (≤ℤ-of-<ℤ h))) (lt-leZ h)
-  chosen NoBlock h = decided true false true (le-leZ h) (lt-leZ (≤ℤ-<ℤ-trans h (order .0))) (le-leZ (≤ℤ-trans h (≤ℤ-of-<ℤ (order .2))))
+  chosen Full h =
+      decided false true true false (lt-leZ (<ℤ-≤ℤ-trans (order .0) (h .0))) (le-leZ (h .0)) (le-leZ (h .1)) (lt-leZ (≤ℤ-<ℤ-trans (h .1) (order .2)))
+  chosen FromToe h =
+      let low = <ℤ-trans (h .1) (order .1) in
+      decided false false true false (lt-leZ (h .0)) (lt-leZ (h .1)) (le-leZ (≤ℤ-of-<ℤ low)) (lt-leZ (<ℤ-trans low (order .2)))
+  chosen FromHeel h =
+      decided false true false false (lt-leZ (<ℤ-trans (order .3) (h .0))) (le-leZ (≤ℤ-of-<ℤ (<ℤ-trans (order .1) (h .0)))) (lt-leZ (h .0)) (lt-leZ (h .1))
+  chosen NoBlock (inl h) =
+      decided true false true false (le-leZ h) (lt-leZ (≤ℤ-<ℤ-trans h (order .0))) (le-leZ (≤ℤ-trans h (≤ℤ-of-<ℤ (order .3)))) (lt-leZ (≤ℤ-<ℤ-trans h (order .4)))
+  chosen NoBlock (inr h) =
+      let high = <ℤ-≤ℤ-trans (order .2) h in
+      decided false true false true (lt-leZ (<ℤ-≤ℤ-trans (order .4) h)) (le-leZ (≤ℤ-of-<ℤ (<ℤ-trans (order .1) high))) (lt-leZ high) (le-leZ h)
 
   -- a kind is chosen where R and M6 make a block of it, and nowhere else
   pub kind-makes : (k : Kind) → (kindOf R M6 l ≡ k) ↔ Makes k R M6 l
   kind-makes k = let m = made R M6 l in (λ e. rw (sym (chosen (m .0) (m .1) .0) ∙ e) at (m .1), λ h. chosen k h .0)
 
   -- the cases leave nothing out and overlap nowhere
-  pub exactly-one : trues (isNone M6 ∷ isFull R M6 l ∷ isFromToe R M6 l ∷ isFromHeel R M6 l ∷ []) ≡ 1
+  pub exactly-one : trues (isNone R M6 l ∷ isFull R M6 l ∷ isFromToe R M6 l ∷ isFromHeel R M6 l ∷ []) ≡ 1
   exactly-one = let m = made R M6 l in chosen (m .0) (m .1) .1
 
   -- ---- the one block
@@ -231,7 +253,7 @@ module _ (R M6 l : ℤ) (hR : pos 0 <ℤ R) (hl : pos 0 <ℤ l) where
   figures other h FromHeel e s c t =
       let w = peak-carries (other .heel) (other .toe) (other .contact) hR hl (h .heel) (h .toe) (h .contact) s (turned R other .0 c) in
       let f = triangle-figures (pos 6 *ℤ R *ℤ l -ℤ M6) w (mirror M6 w .0 t) in
-      (across M6 (is-above hR) (is-above hl) .0 (f .0 .1), record { kind = e; toe = s .falls; heel = f .1; contact = f .2 })
+      (across M6 (is-above hR) (is-above hl) .0 (f .0), record { kind = e; toe = s .falls; heel = f .1; contact = f .2 })
   figures other h NoBlock e s c t = absurd s
 
   -- so it is the block of that kind
@@ -241,16 +263,16 @@ module _ (R M6 l : ℤ) (hR : pos 0 <ℤ R) (hl : pos 0 <ℤ l) where
       let f = figures other (s .proper) (other .kind) refl (s .shaped) c t in
       rw (sym (chosen k h .0) ∙ chosen (other .kind) (f .0) .0) (f .1)
 
-  -- where M6 is not above 0, no straight-line block would do
-  pub none-bears : M6 ≤ℤ pos 0 → (other : Block) → StraightLine l other → Same (carried other) (overOne R)
+  -- where M6 is not above 0, or not below 6Rl, no straight-line block would do
+  pub none-bears : Makes NoBlock R M6 l → (other : Block) → StraightLine l other → Same (carried other) (overOne R)
       → Same (sixMoments l other) (overOne M6) → ⊥
   unfolding ofKind
   none-bears h other s c t = rw (sole NoBlock h other s c t .kind) at (s .shaped)
 
   -- the block of the kind that is made bears
-  bears : pos 0 <ℤ M6 → M6 <ℤ (pos 6 *ℤ R *ℤ l) → (k : Kind) → Makes k R M6 l → Bears R M6 l (ofKind k R M6 l)
+  bears : (k : Kind) → T (isGivenKind k) → Makes k R M6 l → Bears R M6 l (ofKind k R M6 l)
   unfolding ofKind
-  bears some less Full h =
+  bears Full g h =
       let toe = sub-nonneg (h .1) in
       let heel = sub-nonneg (h .0) in
       let w = full-carries (is-above hR) (is-above hl) (is-whole toe) (is-whole heel) (-ℤ-+ℤ-cancel _ M6) (sym (-ℤ-+ℤ-cancel M6 (pos 2 *ℤ R *ℤ l))) in
@@ -264,83 +286,119 @@ module _ (R M6 l : ℤ) (hR : pos 0 <ℤ R) (hl : pos 0 <ℤ l) where
         turns = w .2;
         only = sole Full h;
       }
-  bears some less FromToe h =
-      let w = stands (is-above hR) (is-above some) (is-above hl) (h .1) in
+  bears FromToe g h =
+      let w = stands (is-above hR) (is-above (h .0)) (is-above hl) (h .1) in
       record {
-        straight = record { proper = record { toe = some; heel = ltZ-yes tt; contact = w .under }; shaped = w .shaped };
+        straight = record { proper = record { toe = h .0; heel = ltZ-yes tt; contact = w .under }; shaped = w .shaped };
         toe = w .peak;
         heel = leZ-yes tt;
-        some = some;
+        some = h .0;
         within = ≤ℤ-of-<ℤ (w .shaped .short);
         carries = w .carries;
         turns = w .turns;
         only = sole FromToe h;
       }
-  bears some less FromHeel h =
-      let own = sub-above less in
-      let w = stands (is-above hR) (is-above own) (is-above hl) (across M6 (is-above hR) (is-above hl) .1 h) in
+  bears FromHeel g h =
+      let own = across M6 (is-above hR) (is-above hl) .1 h in
+      let w = stands (is-above hR) (is-above (own .0)) (is-above hl) (own .1) in
       record {
-        straight = record { proper = record { toe = ltZ-yes tt; heel = own; contact = w .under }; shaped = w .shaped };
+        straight = record { proper = record { toe = ltZ-yes tt; heel = own .0; contact = w .under }; shaped = w .shaped };
         toe = leZ-yes tt;
         heel = w .peak;
-        some = own;
+        some = own .0;
         within = ≤ℤ-of-<ℤ (w .shaped .short);
         carries = turned R (ofKind FromHeel R M6 l) .1 (w .carries);
         turns = mirror M6 (w .natural) .1 (w .turns);
         only = sole FromHeel h;
       }
-  bears some less NoBlock h = clashℤ some h
+  bears NoBlock g h = absurd g
 
-  -- where M6 is above 0 and less than 6Rl, the block that R and M6 make bears
-  pub block-bears : pos 0 <ℤ M6 → M6 <ℤ (pos 6 *ℤ R *ℤ l) → Bears R M6 l (blockOf R M6 l)
+  -- the block that R and M6 make bears, where they make one; and that is where M6 is above 0 and below 6Rl
+  pub block-bears : T (isGivenKind (kindOf R M6 l)) → Bears R M6 l (blockOf R M6 l)
   unfolding blockOf
-  block-bears some less = bears some less (kindOf R M6 l) (kind-makes (kindOf R M6 l) .0 refl)
+  block-bears some = bears (kindOf R M6 l) some (kind-makes (kindOf R M6 l) .0 refl)
+
+  pub some-made : T (isGivenKind (kindOf R M6 l)) ↔ (pos 0 <ℤ M6) × (M6 <ℤ (pos 6 *ℤ R *ℤ l))
+  some-made = (λ t. by (kindOf R M6 l) t (kind-makes (kindOf R M6 l) .0 refl), λ h. of h (made R M6 l))
+    where
+      by : (k : Kind) → T (isGivenKind k) → Makes k R M6 l → (pos 0 <ℤ M6) × (M6 <ℤ (pos 6 *ℤ R *ℤ l))
+      by Full t h = (<ℤ-≤ℤ-trans (order .0) (h .0), ≤ℤ-<ℤ-trans (h .1) (order .2))
+      by FromToe t h = (h .0, <ℤ-trans (<ℤ-trans (h .1) (order .1)) (order .2))
+      by FromHeel t h = (<ℤ-trans (order .3) (h .0), h .1)
+      by NoBlock t h = absurd t
+
+      of : (pos 0 <ℤ M6) × (M6 <ℤ (pos 6 *ℤ R *ℤ l)) → (k : Kind) × Makes k R M6 l → T (isGivenKind (kindOf R M6 l))
+      of within (Full, h) = rw (chosen Full h .0) tt
+      of within (FromToe, h) = rw (chosen FromToe h .0) tt
+      of within (FromHeel, h) = rw (chosen FromHeel h .0) tt
+      of within (NoBlock, inl h) = clashℤ (within .0) h
+      of within (NoBlock, inr h) = clashℤ (within .1) h
 
 -- what the block of each kind has, the one that is given has; where it isn't given, it is the one of no kind
 pub given-has : (P : Block → Type 0) (scale : ℕ) (R M6 l : ℤ) → ((k : Kind) → P (ofKind k R M6 l)) → P (given scale (blockOf R M6 l))
 unfolding given blockOf ofKind
 given-has P scale R M6 l each = case (leb (peak scale (blockOf R M6 l)) greatestPeak) _ _ P (λ low. each (kindOf R M6 l)) (λ high. each NoBlock)
 
--- a block that is given bears
-pub given-bears : (scale : ℕ) (R M6 l : ℤ) → pos 0 <ℤ R → pos 0 <ℤ l → M6 <ℤ (pos 6 *ℤ R *ℤ l) → T (isGiven (given scale (blockOf R M6 l)))
-    → Bears R M6 l (given scale (blockOf R M6 l))
-unfolding given blockOf ofKind
-given-bears scale R M6 l hR hl less =
-    case (leb (peak scale (blockOf R M6 l)) greatestPeak) (blockOf R M6 l) noBlock (λ b. T (isGiven b) → Bears R M6 l b)
-    (λ low t. ⊎-elim (λ h. absurd (rw (kind-makes R M6 l hR hl NoBlock .1 h) at t)) (λ h. block-bears R M6 l hR hl h less) (≤ℤ-or-<ℤ M6 (pos 0)))
-    (λ high t. absurd t)
+-- the block of a kind is of that kind
+pub of-its-kind : (k : Kind) (R M6 l : ℤ) → ofKind k R M6 l .kind ≡ k
+unfolding ofKind
+of-its-kind Full R M6 l = refl
+of-its-kind FromToe R M6 l = refl
+of-its-kind FromHeel R M6 l = refl
+of-its-kind NoBlock R M6 l = refl
 
--- ---- an accepted wall: some weight rests on its base and stands within it, so that N is above 0 where a heel triangle is taken
+-- a block that is given is one that is made
+given-made : (scale : ℕ) (R M6 l : ℤ) (P : Block → Type 0) → (T (isGivenKind (kindOf R M6 l)) → P (blockOf R M6 l))
+    → T (isGiven (given scale (blockOf R M6 l))) → P (given scale (blockOf R M6 l))
+unfolding given blockOf
+given-made scale R M6 l P made =
+    case (leb (peak scale (blockOf R M6 l)) greatestPeak) (blockOf R M6 l) noBlock (λ b. T (isGiven b) → P b)
+    (λ low t. made (rw (of-its-kind (kindOf R M6 l) R M6 l) at t)) (λ high t. absurd t)
+
+-- so it bears
+pub given-bears : (scale : ℕ) (R M6 l : ℤ) → pos 0 <ℤ R → pos 0 <ℤ l → T (isGiven (given scale (blockOf R M6 l))) → Bears R M6 l (given scale (blockOf R M6 l))
+given-bears scale R M6 l hR hl = given-made scale R M6 l (Bears R M6 l) (block-bears R M6 l hR hl)
+
+-- and M6 is above 0 and below 6Rl
+pub given-within : (scale : ℕ) (R M6 l : ℤ) → pos 0 <ℤ R → pos 0 <ℤ l → T (isGiven (given scale (blockOf R M6 l))) → (pos 0 <ℤ M6) × (M6 <ℤ (pos 6 *ℤ R *ℤ l))
+given-within scale R M6 l hR hl = given-made scale R M6 l (λ b. (pos 0 <ℤ M6) × (M6 <ℤ (pos 6 *ℤ R *ℤ l))) (some-made R M6 l hR hl .0)
+
+-- ---- an accepted wall: some weight rests on its base
 
 module _ (wall : Wall) (loads : List Load) (accepted : T (fits wall loads)) where
-  sized-bears : (scale most : ℕ) (t : Totals) → Sized (pos (baseLength wall)) most t → T (isGiven (blockUnder scale t wall))
-      → Bears (t .R) (t .M6) (pos (baseLength wall)) (blockUnder scale t wall)
-  unfolding blockUnder
-  sized-bears scale most t s =
-      let long = base-length (wall-within wall (fit wall loads accepted .wall-fits)) in
-      given-bears scale (t .R) (t .M6) (pos (baseLength wall)) (s .some) (pos-<ℤ .1 (omega arith)) (s .on-base)
+  long : pos 0 <ℤ pos (baseLength wall)
+  long = let l = base-length (wall-within wall (fit wall loads accepted .wall-fits)) in pos-<ℤ .1 (omega arith)
 
-  -- R is above 0, and so is N = 6Rl - M6, in service and factored
-  abbrev pub Standing : Totals → Type 0
-  Standing t = (pos 0 <ℤ t .R) × (pos 0 <ℤ (pos 6 *ℤ t .R *ℤ pos (baseLength wall) -ℤ t .M6))
+  -- R is above 0, in service and factored
+  pub service-above : pos 0 <ℤ service wall loads .R
+  service-above = service-sized wall loads (fit wall loads accepted) .some
 
-  pub service-above : Standing (service wall loads)
-  service-above = let s = service-sized wall loads (fit wall loads accepted) in (s .some, sub-above (s .on-base))
+  pub factored-above : pos 0 <ℤ factored wall loads .R
+  factored-above = factored-sized wall loads (fit wall loads accepted) .some
 
-  pub factored-above : Standing (factored wall loads)
-  factored-above = let s = factored-sized wall loads (fit wall loads accepted) in (s .some, sub-above (s .on-base))
+  -- R meets the base between its ends, where a block is given
+  abbrev pub OnBase : Totals → Type 0
+  OnBase t = (pos 0 <ℤ t .M6) × (t .M6 <ℤ (pos 6 *ℤ t .R *ℤ pos (baseLength wall)))
+
+  pub service-on-base : T (isGiven (serviceBlock wall loads)) → OnBase (service wall loads)
+  unfolding serviceBlock blockUnder
+  service-on-base = given-within serviceScale _ _ _ service-above long
+
+  pub factored-on-base : T (isGiven (factoredBlock wall loads)) → OnBase (factored wall loads)
+  unfolding factoredBlock blockUnder
+  factored-on-base = given-within factoredScale _ _ _ factored-above long
 
   -- the service block, where it is given, bears the totals in service
   pub service-bears : T (isGiven (serviceBlock wall loads))
       → Bears (service wall loads .R) (service wall loads .M6) (pos (baseLength wall)) (serviceBlock wall loads)
-  unfolding serviceBlock
-  service-bears = sized-bears serviceScale heaviest (service wall loads) (service-sized wall loads (fit wall loads accepted))
+  unfolding serviceBlock blockUnder
+  service-bears = given-bears serviceScale _ _ _ service-above long
 
   -- and the factored block the factored totals
   pub factored-bears : T (isGiven (factoredBlock wall loads))
       → Bears (factored wall loads .R) (factored wall loads .M6) (pos (baseLength wall)) (factoredBlock wall loads)
-  unfolding factoredBlock
-  factored-bears = sized-bears factoredScale heaviestFactored (factored wall loads) (factored-sized wall loads (fit wall loads accepted))
+  unfolding factoredBlock blockUnder
+  factored-bears = given-bears factoredScale _ _ _ factored-above long
 
 -- ---- what is answered of one wall with its loads
 

@@ -127,7 +127,7 @@ drawn-figured file n t there =
     record {
       R = thousandth _ (d .R);
       H = thousandth _ (d .H);
-      distance = one-division _ _ (d .M6) (d .sixfold) (six-above (is-above (service-above wall loads worked .0)));
+      distance = one-division _ _ (d .M6) (d .sixfold) (six-above (is-above (service-above wall loads worked)));
       shape = given-has (HasFigures (service wall loads) _) serviceScale _ _ _ (kind-figured (service wall loads) _) (shaped wall loads small) (λ given. service-bears wall loads worked given .straight .proper .contact);
     }
 

@@ -14,9 +14,9 @@ use Rattle.whole.specs.Rounding.{roundedNearest}
 use Rattle.whole.specs.Sum.{sumOf}
 use Rattle.rules.specs.declared.Answer.{Answer}
 use Rattle.rules.specs.declared.Answer.the-variants.{Worked}
-use Rattle.rules.specs.JobFile.{File, Wall, wallCount, u16At, u32At, u32sAt, entriesAt, wallAt, recordsFrom, walls, entries, loadsOn, baseLength, wallHeight, among, within, firstOutside, firstBadField, wallFits}
+use Rattle.rules.specs.JobFile.{File, Wall, wallCount, u16At, u32At, u32sAt, entriesAt, wallAt, recordsFrom, walls, entries, loadsOn, baseLength, crestHeight, wallHeight, among, within, firstOutside, firstBadField, wallFits}
 use Rattle.rules.specs.Answered.{accepted, countsFit, offsetsFit, lengthFits, wallAnswer, firstBadWall, firstBadLoad, firstRefusal}
-use Rattle.rules.specs.Forces.{saturatedHeight, stemWeight, baseWeight, saturatedWeight, moistWeight, surchargeWeight, weightRows, pushRows, loadTable, table, columnSum, totals, service}
+use Rattle.rules.specs.Forces.{saturatedHeight, stemWeight, baseWeight, downstandWeight, saturatedWeight, moistWeight, surchargeWeight, weightRows, pushRows, loadTable, table, columnSum, totals, service}
 use Rattle.rules.specs.SheetLine.{lineNumbers, workedWall, numbersBy, line, linesFrom, sheet, joined, answerTo, bufferAfter, Calculates, digit, digits, decimal, signedDecimal, hexDigits, lineRest, lineText, printed}
 use Rattle.rules.specs.Beyond.{sheetRoom, onto, Prints}
 use Rattle.rules.proofs.Accepted.{both, every}
@@ -32,7 +32,7 @@ lowA = set wallA 1 2000
 
 unfoldable twoWalls : File
 unfolding lowA
-twoWalls = u16s (1 ∷ 2 ∷ 12 ∷ 0 ∷ 292 ∷ 292 ∷ []) ++ u32s (lowA ++ wallA)
+twoWalls = u16s (2 ∷ 2 ∷ 12 ∷ 0 ∷ 316 ∷ 316 ∷ []) ++ u32s (lowA ++ wallA)
 
 -- room for both lines
 abbrev lent : List ℤ
@@ -71,7 +71,7 @@ record WorkedOut : Type 0 where
   case-A-bytes : T (areBytes caseA)
 
 worked-out : WorkedOut
-unfolding twoWalls u16At u32At u32sAt entriesAt wallAt recordsFrom walls entries loadsOn baseLength wallHeight among within firstOutside firstBadField wallFits countsFit offsetsFit lengthFits wallAnswer firstBadWall firstBadLoad firstRefusal saturatedHeight stemWeight baseWeight saturatedWeight moistWeight surchargeWeight weightRows pushRows loadTable table columnSum totals service workedWall numbersBy line linesFrom sheet joined answerTo bufferAfter digits decimal signedDecimal hexDigits lineRest lineText printed roundedNearest sumOf
+unfolding twoWalls u16At u32At u32sAt entriesAt wallAt recordsFrom walls entries loadsOn baseLength crestHeight wallHeight among within firstOutside firstBadField wallFits countsFit offsetsFit lengthFits wallAnswer firstBadWall firstBadLoad firstRefusal saturatedHeight stemWeight baseWeight downstandWeight saturatedWeight moistWeight surchargeWeight weightRows pushRows loadTable table columnSum totals service workedWall numbersBy line linesFrom sheet joined answerTo bufferAfter digits decimal signedDecimal hexDigits lineRest lineText printed roundedNearest sumOf
 worked-out =
     record { answered = refl; passes = tt; bytes = tt; two = refl; one = refl; low = refl; high = refl; case-A = refl; low-printed = refl; case-A-printed = refl; case-A-bytes = tt }
 

@@ -18,12 +18,14 @@ pub mod HeelBearing
 pub mod Hundredths
 pub mod Idle
 pub mod Lever
+pub mod Levers
 pub mod Lines
 pub mod LoadsOfWalls
 pub mod LongInput
 pub mod Moments
 pub mod Named
 pub mod NoBlock
+pub mod NoDownstand
 pub mod Pieces
 pub mod Points
 pub mod Pressures

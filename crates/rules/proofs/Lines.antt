@@ -6,12 +6,12 @@ use Prim.Native.Nat.{ℕ, _+_, _-_, _*_, _≤_}
 use native.Mathlib.Nat.{mul-le-mul, le-trans}
 use native.Mathlib.Omega.{arith}
 use lib.Dec.{T, ltb, le→leb, lit<}
-use lib.IntN.{pos, natAbs}
+use lib.IntN.{ℤ, pos, natAbs}
 use lib.ListN.{length, length-append}
-use lib.Signed.{_≤ℤ_}
+use lib.Signed.{_≤ℤ_, _<ℤ_}
 use Rattle.whole.specs.Parts.{aboveZero}
 use Rattle.whole.specs.Rounding.{roundedUp}
-use Rattle.whole.proofs.Integer.{≤ℤ-of-<ℤ, pos-≤ℤ, sub-<ℤ, above-less, abs-less}
+use Rattle.whole.proofs.Integer.{≤ℤ-of-<ℤ, pos-≤ℤ, sub-<ℤ, above-less, abs-<ℤ, abs-less}
 use Rattle.whole.proofs.Lists.{All, all-joined, case}
 use Rattle.whole.proofs.Rounded.{up-within, up-least}
 use Rattle.rules.specs.declared.Kind.{Kind}
@@ -20,19 +20,19 @@ use Rattle.rules.specs.declared.Block.{Block}
 use Rattle.rules.specs.declared.Section.{Section}
 use Rattle.rules.specs.declared.Action.{Action}
 use Rattle.rules.specs.declared.Member.{Member}
-use Rattle.rules.specs.JobFile.{Wall, Load, stemHeight, stemThickness, toeLength, heelLength, baseThickness, baseDensity, restCoefficient, baseLength, wallHeight, isDown, position, deadLoad, liveLoad, reach}
+use Rattle.rules.specs.JobFile.{Wall, Load, stemHeight, stemThickness, toeLength, heelLength, baseThickness, baseDensity, restCoefficient, baseLength, crestHeight, isDown, position, deadLoad, liveLoad, reach}
 use Rattle.rules.specs.Forces.{saturatedHeight, Component, deadPush, livePush, across, pushRows, horizontal, moment, columnSum, tenths, passive, frictionUnder, lastingWeight, isPropped, slidingUnder, slidingOf, proppingForce}
 use Rattle.rules.specs.Bearing.{serviceScale, greatestPeak, blockUnder, serviceBlock, factoredBlock, pressedBy}
 use Rattle.rules.specs.ToeAndStem.{twiceArm, twiceHeelArm, straightShear, straightMoment, straight, toeWorked, toeAction, stemLoadRows, stemLoadTable, stemTable, stemAction, toeSection, fillOnHeel, shearOnHeel, momentOnHeel, heelWorked, heelAction, stemSection, heelSection, memberUnder, toeUnder, toe, stem, heelUnder, heel}
 use Rattle.rules.specs.SheetLine.{workedWall, numbersBy, line}
 use Rattle.rules.specs.Beyond.{isWorkable}
-use Rattle.rules.proofs.Accepted.{most, WallWithin, wall-within, longest, wall-height, LoadWithin, load-within}
+use Rattle.rules.proofs.Accepted.{most, WallWithin, wall-within, longest, crest-height, LoadWithin, load-within}
 use Rattle.rules.proofs.Examined.{AllFit, Fit}
 use Rattle.rules.proofs.Bits.{two-bytes}
 use Rattle.rules.proofs.Pressures.{Pressable, WithinPeak, given-most, factored-pressable, reported-most, scaled-most, line-most}
 use Rattle.rules.proofs.Sections.{toe-workable, stem-workable, heel-workable, required-most}
 use Rattle.rules.proofs.ToeBearing.{before, never-more}
-use Rattle.rules.proofs.Sizes.{weighed, Sound, push, pushes-sound, stem-face, Small, Moderate, each, row-at, column-moderate, service-sized}
+use Rattle.rules.proofs.Sizes.{weighed, Sound, push, pushes-sound, stem-face, mostRows, Small, each, row-at, column-small, service-sized}
 
 -- a member's figures are small
 record SmallMember (m : Member) : Type 0 where
@@ -130,9 +130,9 @@ heel-small wall loads fit =
 
 -- ---- the stem
 
--- no more rows than so many, and all of them sound; a push is so on any base
+-- no more rows than so many, and all of them sound, without weight
 abbrev Rows : ℕ → List Component → Type 0
-Rows most rows = All (Sound 0 0) rows × (length rows ≤ most)
+Rows most rows = All (Sound 0) rows × (length rows ≤ most)
 
 module _ (wall : Wall) (w : WallWithin wall) where
   -- a load has two pushes, or nothing that reaches the stem
@@ -140,14 +140,14 @@ module _ (wall : Wall) (w : WallWithin wall) where
   unfolding stemLoadRows reach
   stem-load-sound load v = go (isDown load) (ltb (position load) (baseThickness wall)) (v .place)
     where
-      high : ℕ
-      high = 6 * (position load - baseThickness wall)
+      high : ℤ
+      high = pos (6 * (position load - baseThickness wall))
 
-      go : (d below : Bool) → position load ≤ cond d (baseLength wall) (wallHeight wall)
+      go : (d below : Bool) → position load ≤ cond d (baseLength wall) (crestHeight wall)
           → Rows 2 (cond (d || below) [] (across deadPush (deadLoad load) high ∷ across livePush (liveLoad load) high ∷ []))
       go true below far = (tt, omega arith)
       go false true far = (tt, omega arith)
-      go false false far = ((push refl (omega (arith, wall-height w)), (push refl (omega (arith, wall-height w)), tt)), omega arith)
+      go false false far = ((push high (omega (arith, crest-height w)), (push high (omega (arith, crest-height w)), tt)), omega arith)
 
   stem-loads-sound : (loads : List Load) → AllFit wall loads → Rows (2 * length loads) (stemLoadTable wall loads)
   unfolding stemLoadTable
@@ -155,7 +155,7 @@ module _ (wall : Wall) (w : WallWithin wall) where
   stem-loads-sound (load ∷ rest) all =
       let one = stem-load-sound load (load-within wall load (all .0)) in
       let others = stem-loads-sound rest (all .1) in
-      (all-joined (Sound 0 0) (stemLoadRows wall load) (stemLoadTable wall rest) (one .0) (others .0), rw length-append (omega arith))
+      (all-joined (Sound 0) (stemLoadRows wall load) (stemLoadTable wall rest) (one .0) (others .0), rw length-append (omega arith))
 
 module _ (wall : Wall) (loads : List Load) (fit : Fit wall loads) where
   within : WallWithin wall
@@ -168,19 +168,19 @@ module _ (wall : Wall) (loads : List Load) (fit : Fit wall loads) where
       let K = restCoefficient wall in
       let h = stemHeight wall in
       let hw = saturatedHeight wall in
-      let behind = pushes-sound 0 0 within K h hw (within .rest .1) (stem-face within .0) (stem-face within .1) in
+      let behind = pushes-sound 0 within K h hw 0 (within .rest .1) (stem-face within .0) (stem-face within .1) (omega arith) in
       let under = stem-loads-sound wall within loads (fit .loads-fit) in
-      (all-joined (Sound 0 0) (pushRows wall K h hw) (stemLoadTable wall loads) behind (under .0), omega (arith, fit .few))
+      (all-joined (Sound 0) (pushRows wall K h hw 0) (stemLoadTable wall loads) behind (under .0), omega (arith, fit .few))
 
-  stem-column : (j : ℕ) → Moderate (columnSum tenths j (stemTable wall loads))
-  stem-column =
-      let rows = row-at 0 0 (stemTable wall loads) (stem-rows .0) in
-      column-moderate (stemTable wall loads) rows (omega (arith, stem-rows .1)) tenths (each _ (omega (arith, le→leb)))
+  stem-column : (j : ℕ) → columnSum tenths j (stemTable wall loads) <ℤ pos 1000000000000000
+  stem-column j =
+      let rows = row-at 0 (stemTable wall loads) (stem-rows .0) in
+      abs-<ℤ _ (column-small (stemTable wall loads) rows (omega (arith, stem-rows .1)) tenths (each _ (omega arith)) j)
 
   stem-small : SmallMember (stem wall loads)
   unfolding stem stemAction
   stem-small =
-      let part : (j : ℕ) → Small (aboveZero (columnSum tenths j (stemTable wall loads))) = λ j. above-less _ (lit< tt) (stem-column j .1) in
+      let part : (j : ℕ) → Small (aboveZero (columnSum tenths j (stemTable wall loads))) = λ j. above-less _ (lit< tt) (stem-column j) in
       member-small (stemSection wall) (stem-workable wall (fit .wall-fits)) _
       (quotient-small _ 10 (part horizontal), quotient-small _ (6 * 10) (part moment))
 

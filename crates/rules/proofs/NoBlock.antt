@@ -5,44 +5,38 @@ use mathlib.Core.List.{List}
 use Prim.Native.Nat.{ℕ, _<_}
 use native.Mathlib.Omega.{arith}
 use lib.Dec.{T, leb, leb→le, nleb→lt}
-use lib.IntN.{ℤ, pos}
+use lib.IntN.{ℤ, pos, _*ℤ_}
 use lib.Signed.{_≤ℤ_, _<ℤ_}
 use Rattle.whole.proofs.Integer.{pos-<ℤ}
 use Rattle.whole.proofs.Lists.{case}
 use Rattle.rules.specs.declared.Check.the-variants.{NoServiceBlock, NoFactoredBlock}
-use Rattle.rules.specs.declared.Kind.{Kind}
-use Rattle.rules.specs.declared.Kind.the-variants.{Full, FromToe, FromHeel, NoBlock}
+use Rattle.rules.specs.declared.Kind.the-variants.{NoBlock}
 use Rattle.rules.specs.declared.Totals.{Totals}
 use Rattle.rules.specs.JobFile.{Wall, Load, baseLength}
 use Rattle.rules.specs.Forces.{service, factored}
-use Rattle.rules.specs.Bearing.{noBlock, ofKind, blockOf, serviceScale, factoredScale, peak, greatestPeak, given, blockUnder, serviceBlock, factoredBlock}
+use Rattle.rules.specs.Bearing.{noBlock, blockOf, serviceScale, factoredScale, peak, greatestPeak, given, blockUnder, serviceBlock, factoredBlock}
 use Rattle.rules.specs.SheetLine.{failures, isSet}
 use Rattle.rules.proofs.Accepted.{wall-within, base-length}
 use Rattle.rules.proofs.Bits.{bits}
-use Rattle.rules.proofs.Carries.{kind-makes}
+use Rattle.rules.proofs.Carries.{kind-makes, of-its-kind}
 use Rattle.rules.proofs.Examined.{Fit}
 use Rattle.rules.proofs.Sizes.{Sized, heaviest, heaviestFactored, service-sized, factored-sized}
 
--- totals give no block on a wall's base: M6 is at most 0, or the reported peak of the block that they make exceeds 2000000
+-- totals give no block on a wall's base, by one of three causes: M6 is at most 0, or at least 6Rl, or the reported peak of the block that they make exceeds 2000000
 abbrev pub NoBlockBy : ℕ → Wall → Totals → Type 0
-NoBlockBy scale wall t = (t .M6 ≤ℤ pos 0) ⊎ (2000000 < peak scale (blockOf (t .R) (t .M6) (pos (baseLength wall))))
+NoBlockBy scale wall t =
+    let l = pos (baseLength wall) in
+    ((t .M6 ≤ℤ pos 0) ⊎ ((pos 6 *ℤ t .R *ℤ l) ≤ℤ t .M6)) ⊎ (2000000 < peak scale (blockOf (t .R) (t .M6) l))
 
-of-its-kind : (k : Kind) (R M6 l : ℤ) → ofKind k R M6 l .kind ≡ k
-unfolding ofKind
-of-its-kind Full R M6 l = refl
-of-its-kind FromToe R M6 l = refl
-of-its-kind FromHeel R M6 l = refl
-of-its-kind NoBlock R M6 l = refl
-
--- R and M6 make none just where M6 is at most 0
-none-made : (R M6 l : ℤ) → pos 0 <ℤ R → pos 0 <ℤ l → (blockOf R M6 l .kind ≡ NoBlock) ↔ (M6 ≤ℤ pos 0)
+-- R and M6 make none just by the first two
+none-made : (R M6 l : ℤ) → pos 0 <ℤ R → pos 0 <ℤ l → (blockOf R M6 l .kind ≡ NoBlock) ↔ ((M6 ≤ℤ pos 0) ⊎ ((pos 6 *ℤ R *ℤ l) ≤ℤ M6))
 unfolding blockOf
 none-made R M6 l hR hl = rw of-its-kind (kind-makes R M6 l hR hl NoBlock)
 
 -- ---- a wall that fits with its loads
 
 module _ (wall : Wall) (loads : List Load) (fit : Fit wall loads) where
-  none-given : (scale most : ℕ) (t : Totals) → Sized (pos (baseLength wall)) most t → (blockUnder scale t wall .kind ≡ NoBlock) ↔ NoBlockBy scale wall t
+  none-given : (scale most : ℕ) (t : Totals) → Sized most t → (blockUnder scale t wall .kind ≡ NoBlock) ↔ NoBlockBy scale wall t
   unfolding blockUnder given
   none-given scale most t s =
       let block = blockOf (t .R) (t .M6) (pos (baseLength wall)) in

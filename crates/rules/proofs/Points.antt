@@ -11,9 +11,9 @@ use Rattle.rules.specs.declared.Block.{Block}
 use Rattle.rules.specs.declared.Fraction.{Fraction}
 use Rattle.rules.specs.declared.Kind.{Kind}
 use Rattle.rules.specs.declared.Kind.the-variants.{Full, FromToe, NoBlock}
-use Rattle.rules.specs.JobFile.{Wall, activeCoefficient, waterHeight, u16At, u32At, u32sAt, entriesAt, wallAt, recordsFrom, walls, entries, loadsOn, baseLength, wallHeight, among, within, firstOutside, firstBadField, wallFits}
+use Rattle.rules.specs.JobFile.{Wall, activeCoefficient, waterHeight, u16At, u32At, u32sAt, entriesAt, wallAt, recordsFrom, walls, entries, loadsOn, baseLength, crestHeight, wallHeight, among, within, firstOutside, firstBadField, wallFits}
 use Rattle.rules.specs.Answered.{countsFit, offsetsFit, lengthFits, wallAnswer, firstBadWall, firstBadLoad, firstRefusal}
-use Rattle.rules.specs.Forces.{saturatedHeight, stemWeight, baseWeight, saturatedWeight, moistWeight, surchargeWeight, surchargePush, moistPush, moistPushBelow, saturatedPush, waterPush, weightRows, pushRows, loadRow, deadRow, liveRow, loadTable, table, columnSum, totals, service, factored, passiveDepth, passive, lastingWeight, frictionUnder, isPropped, slidingUnder, slidingOf}
+use Rattle.rules.specs.Forces.{saturatedHeight, stemWeight, baseWeight, downstandWeight, saturatedWeight, moistWeight, surchargeWeight, surchargePush, moistPush, moistPushBelow, saturatedPush, waterPush, weightRows, pushRows, loadRow, deadRow, liveRow, loadTable, table, columnSum, totals, service, factored, passiveDepth, passive, lastingWeight, frictionUnder, isPropped, slidingUnder, slidingOf}
 use Rattle.rules.specs.Bearing.{serviceScale, isNone, isFull, isFromToe, isFromHeel, kindOf, ofKind, blockOf, behindBy, behind, carriedBehind, sixMomentsBehind, reported, peak, given, blockUnder, serviceBlock, factoredBlock, pressedBy}
 use Rattle.rules.specs.ToeAndStem.{scaled, straightShear, straightMoment, straight, bearingBy, toeBearing, toeWorked, shearOfWeight, momentOfWeight, toeAction, stemLoadTable, stemTable, stemAction, fillOnHeel, shearOnHeel, momentOnHeel, wholeOf, heelBearing, heelWorked, heelAction, twiceDepth, needsCompression, bears, greatest, leverArm, neededArea, leastArea, besides, barArea, providedArea, requiredArea, steelFails, shearFails, memberUnder, toeUnder, toe, stem, heelUnder, heel}
 use Rattle.rules.specs.SheetLine.{ascii, workedWall, failsBy, bitsAmong, failuresBy, numbersBy, line, linesFrom, sheet, joined, digits, decimal, signedDecimal, hexDigits, lineRest, lineText, printed}
@@ -39,10 +39,10 @@ u32s (n ∷ rest) = n % 256 ∷ n / 256 % 256 ∷ n / 65536 % 256 ∷ n / 167772
 
 unfoldable pub caseA : List ℕ
 caseA =
-    u16s (1 ∷ 1 ∷ 12 ∷ 0 ∷ 152 ∷ 152 ∷ [])
+    u16s (2 ∷ 1 ∷ 12 ∷ 0 ∷ 164 ∷ 164 ∷ [])
     ++ u32s
     (0 ∷ 3000 ∷ 300 ∷ 500 ∷ 1500 ∷ 300 ∷ 0 ∷ 0 ∷ 0 ∷ 2400 ∷ 2400 ∷ 1800 ∷ 2000 ∷ 1800 ∷ 333 ∷ 500 ∷ 3000 ∷ 500 ∷ 150 ∷ 1000 ∷ 35 ∷ 500 ∷ 13
-    ∷ 40 ∷ 12 ∷ 200 ∷ 40 ∷ 16 ∷ 150 ∷ 550 ∷ 550 ∷ 40 ∷ 16 ∷ 150 ∷ 550 ∷ [])
+    ∷ 40 ∷ 12 ∷ 200 ∷ 40 ∷ 16 ∷ 150 ∷ 550 ∷ 550 ∷ 40 ∷ 16 ∷ 150 ∷ 550 ∷ 0 ∷ 0 ∷ 0 ∷ [])
 
 unfoldable pub wallA : Wall
 unfolding caseA
@@ -71,7 +71,7 @@ shown M6 = let p = pressedBy serviceScale (blockAt M6) in record { shape = p .bl
 
 abbrev pub points : List Point
 points =
-    point ℕ (length caseA) 152  -- P1
+    point ℕ (length caseA) 164  -- P1
     ∷ point (List ℕ) (printed caseA) (ascii "1 000 134160 43627 0 767102100 88312 28349 173078 0 71688 30840740 39000 80700 92700000 89165 75042 88187024 84824\n")
     ∷ point ℕ (leverArm 232500000 35 585) 529  -- P2
     ∷ point ℕ (neededArea 232500000 500 (leverArm 232500000 35 585)) 202073
@@ -95,5 +95,5 @@ Hold [] = Unit
 Hold (p ∷ rest) = (p .worked ≡ p .wanted) × Hold rest
 
 pub points-hold : Hold points
-unfolding excavatedA shown u16At u32At u32sAt entriesAt wallAt recordsFrom walls entries loadsOn baseLength wallHeight among within firstOutside firstBadField wallFits countsFit offsetsFit lengthFits wallAnswer firstBadWall firstBadLoad firstRefusal saturatedHeight stemWeight baseWeight saturatedWeight moistWeight surchargeWeight surchargePush moistPush moistPushBelow saturatedPush waterPush weightRows pushRows loadRow deadRow liveRow loadTable table columnSum totals service factored passiveDepth passive lastingWeight frictionUnder isPropped slidingUnder slidingOf isNone isFull isFromToe isFromHeel kindOf ofKind blockOf behindBy behind carriedBehind sixMomentsBehind reported peak given blockUnder serviceBlock factoredBlock pressedBy scaled straightShear straightMoment straight bearingBy toeBearing toeWorked shearOfWeight momentOfWeight toeAction stemLoadTable stemTable stemAction fillOnHeel shearOnHeel momentOnHeel wholeOf heelBearing heelWorked heelAction twiceDepth needsCompression bears greatest leverArm neededArea leastArea besides barArea providedArea requiredArea steelFails shearFails memberUnder toeUnder toe stem heelUnder heel workedWall failsBy bitsAmong failuresBy numbersBy line linesFrom sheet joined digits decimal signedDecimal hexDigits lineRest lineText printed roundedUp roundedDown roundedNearest sumOf
+unfolding excavatedA shown u16At u32At u32sAt entriesAt wallAt recordsFrom walls entries loadsOn baseLength crestHeight wallHeight among within firstOutside firstBadField wallFits countsFit offsetsFit lengthFits wallAnswer firstBadWall firstBadLoad firstRefusal saturatedHeight stemWeight baseWeight downstandWeight saturatedWeight moistWeight surchargeWeight surchargePush moistPush moistPushBelow saturatedPush waterPush weightRows pushRows loadRow deadRow liveRow loadTable table columnSum totals service factored passiveDepth passive lastingWeight frictionUnder isPropped slidingUnder slidingOf isNone isFull isFromToe isFromHeel kindOf ofKind blockOf behindBy behind carriedBehind sixMomentsBehind reported peak given blockUnder serviceBlock factoredBlock pressedBy scaled straightShear straightMoment straight bearingBy toeBearing toeWorked shearOfWeight momentOfWeight toeAction stemLoadTable stemTable stemAction fillOnHeel shearOnHeel momentOnHeel wholeOf heelBearing heelWorked heelAction twiceDepth needsCompression bears greatest leverArm neededArea leastArea besides barArea providedArea requiredArea steelFails shearFails memberUnder toeUnder toe stem heelUnder heel workedWall failsBy bitsAmong failuresBy numbersBy line linesFrom sheet joined digits decimal signedDecimal hexDigits lineRest lineText printed roundedUp roundedDown roundedNearest sumOf
 points-hold = (refl, (refl, (refl, (refl, (refl, (refl, (refl, (refl, (refl, (refl, (refl, (refl, (refl, (refl, (refl, (refl, tt))))))))))))))))

@@ -6,8 +6,8 @@ use lib.Dec.{lit<}
 use Rattle.whole.specs.Parts.{aboveZero}
 use Rattle.whole.specs.Rounding.{roundedUp, roundedDown, roundedNearest}
 use Rattle.whole.proofs.Rounded.{up-enough, up-least, down-within, down-greatest, nearest-low, nearest-high}
-use Rattle.rules.specs.JobFile.{Wall, Load, stemHeight, stemThickness, heelLength, baseThickness, stemDensity, baseDensity, moistDensity, saturatedDensity, soilDensity, passiveCoefficient, frictionTangent, surcharge, baseLength}
-use Rattle.rules.specs.Forces.{perVolume, perArea, thousandths, waterDensity, squared, saturatedHeight, stemWeight, baseWeight, saturatedWeight, moistWeight, surchargeWeight, surchargePush, moistPush, moistPushBelow, saturatedPush, waterPush, passiveDepth, passive, lastingWeight, frictionUnder, slidingUnder, slidingOf, friction}
+use Rattle.rules.specs.JobFile.{Wall, Load, stemHeight, stemThickness, heelLength, baseThickness, stemDensity, baseDensity, moistDensity, saturatedDensity, soilDensity, passiveCoefficient, frictionTangent, surcharge, baseLength, downstandDepth, downstandThickness}
+use Rattle.rules.specs.Forces.{perVolume, perArea, thousandths, waterDensity, squared, saturatedHeight, stemWeight, baseWeight, downstandWeight, saturatedWeight, moistWeight, surchargeWeight, surchargePush, moistPush, moistPushBelow, saturatedPush, waterPush, passiveDepth, passive, lastingWeight, frictionUnder, slidingUnder, slidingOf, friction}
 
 -- n is a / b, to the nearest: at most a half too much, and less than a half too little
 pub record Nearest (n a b : ℕ) : Type 0 where
@@ -42,6 +42,10 @@ stem-weight wall = nearest _ (lit< tt)
 pub base-weight : (wall : Wall) → Nearest (baseWeight wall) (baseLength wall * baseThickness wall * baseDensity wall) perVolume
 unfolding baseWeight
 base-weight wall = nearest _ (lit< tt)
+
+pub downstand-weight : (wall : Wall) → Nearest (downstandWeight wall) (downstandDepth wall * downstandThickness wall * baseDensity wall) perVolume
+unfolding downstandWeight
+downstand-weight wall = nearest _ (lit< tt)
 
 pub saturated-weight : (wall : Wall) → Nearest (saturatedWeight wall) (heelLength wall * saturatedHeight wall * saturatedDensity wall) perVolume
 unfolding saturatedWeight

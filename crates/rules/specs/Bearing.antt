@@ -2,7 +2,7 @@
 -- N over mm, on a metre's run, is kN/m2, so R over l needs no scale: pressures are in kN/m2 or, where R is in tenths of a newton, in tenths of that. Contacts are in mm.
 use Prim.Native.Nat.{ℕ, _*_, max}
 use mathlib.Core.Path.{_≡_}
-use mathlib.Core.Bool.{Bool, true, false, _&&_, cond}
+use mathlib.Core.Bool.{Bool, true, false, _&&_, _||_, cond}
 use mathlib.Core.List.{List}
 use lib.Dec.{leb}
 use lib.IntN.{ℤ, pos, _+ℤ_, _-ℤ_, _*ℤ_}
@@ -102,8 +102,9 @@ pub record SameBlock (a b : Block) : Type 0 where
 
 -- ---- the block that R and M6 make on a base of length l
 
-unfoldable pub isNone : ℤ → Bool
-isNone M6 = leZ M6 (pos 0)
+-- R acts in front of the toe or at it, or (#107 of document 02) behind the heel's end or at it
+unfoldable pub isNone : ℤ → ℤ → ℤ → Bool
+isNone R M6 l = leZ M6 (pos 0) || leZ (pos 6 *ℤ R *ℤ l) M6
 
 unfoldable pub isFull : ℤ → ℤ → ℤ → Bool
 isFull R M6 l = leZ (pos 2 *ℤ R *ℤ l) M6 && leZ M6 (pos 4 *ℤ R *ℤ l)
@@ -112,12 +113,12 @@ unfoldable pub isFromToe : ℤ → ℤ → ℤ → Bool
 isFromToe R M6 l = ltZ (pos 0) M6 && ltZ M6 (pos 2 *ℤ R *ℤ l)
 
 unfoldable pub isFromHeel : ℤ → ℤ → ℤ → Bool
-isFromHeel R M6 l = ltZ (pos 4 *ℤ R *ℤ l) M6
+isFromHeel R M6 l = ltZ (pos 4 *ℤ R *ℤ l) M6 && ltZ M6 (pos 6 *ℤ R *ℤ l)
 
 -- no block goes first, so that nothing is made of totals that are 0
 unfoldable pub kindOf : ℤ → ℤ → ℤ → Kind
 kindOf R M6 l =
-    cond (isNone M6) NoBlock
+    cond (isNone R M6 l) NoBlock
     (cond (isFull R M6 l) Full (cond (isFromToe R M6 l) FromToe (cond (isFromHeel R M6 l) FromHeel NoBlock)))
 
 abbrev pub noBlock : Block

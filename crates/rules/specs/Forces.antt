@@ -12,7 +12,7 @@ use Rattle.whole.specs.Rounding.{roundedUp, roundedDown, roundedNearest}
 use Rattle.whole.specs.Sum.{sumOf}
 use Rattle.rules.specs.declared.Totals.{Totals}
 use Rattle.rules.specs.declared.Sliding.{Sliding}
-use Rattle.rules.specs.JobFile.{Wall, Load, kind, stemHeight, stemThickness, toeLength, heelLength, baseThickness, coverInFront, excavation, waterHeight, stemDensity, baseDensity, moistDensity, saturatedDensity, soilDensity, activeCoefficient, restCoefficient, passiveCoefficient, frictionTangent, surcharge, baseLength, wallHeight, isDown, position, deadLoad, liveLoad}
+use Rattle.rules.specs.JobFile.{Wall, Load, kind, stemHeight, stemThickness, toeLength, heelLength, baseThickness, coverInFront, excavation, waterHeight, stemDensity, baseDensity, moistDensity, saturatedDensity, soilDensity, activeCoefficient, restCoefficient, passiveCoefficient, frictionTangent, surcharge, downstandDepth, downstandPosition, downstandThickness, baseLength, wallHeight, isDown, position, deadLoad, liveLoad}
 
 -- ---- units
 
@@ -38,7 +38,7 @@ squared n = n * n
 
 -- hsat; a difference of whole numbers is 0 where it would be negative
 unfoldable pub saturatedHeight : Wall → ℕ
-saturatedHeight wall = waterHeight wall - baseThickness wall
+saturatedHeight wall = waterHeight wall - baseThickness wall - downstandDepth wall
 
 -- ---- weights, rounded to the nearest newton
 
@@ -47,6 +47,10 @@ stemWeight wall = roundedNearest (stemHeight wall * stemThickness wall * stemDen
 
 unfoldable pub baseWeight : Wall → ℕ
 baseWeight wall = roundedNearest (baseLength wall * baseThickness wall * baseDensity wall) perVolume
+
+-- of the base's concrete (#107 of document 02)
+unfoldable pub downstandWeight : Wall → ℕ
+downstandWeight wall = roundedNearest (downstandDepth wall * downstandThickness wall * baseDensity wall) perVolume
 
 unfoldable pub saturatedWeight : Wall → ℕ
 saturatedWeight wall = roundedNearest (heelLength wall * saturatedHeight wall * saturatedDensity wall) perVolume
@@ -76,7 +80,7 @@ waterPush hw = roundedUp (waterDensity * squared hw) (2 * perVolume)
 
 -- ---- the component table
 
--- dead weight: stem, base, fill and dead loads down. Live weight: surcharge and live loads down.
+-- dead weight: stem, base, downstand, fill and dead loads down. Live weight: surcharge and live loads down.
 -- Dead pushes: earth, water and horizontal dead loads. Live pushes: surcharge and horizontal live loads.
 pub data Sort : Type 0 where
   deadWeight liveWeight deadPush livePush : Sort
@@ -90,9 +94,9 @@ pub record Component : Type 0 where
 abbrev pub down : Sort → ℕ → ℕ → Component
 down sort force sixfold = record { sort = sort; row = pos force ∷ pos 0 ∷ pos (force * sixfold) ∷ [] }
 
--- a horizontal force, with six times its height
-abbrev pub across : Sort → ℕ → ℕ → Component
-across sort force sixfold = record { sort = sort; row = pos 0 ∷ pos force ∷ pos (force * sixfold) ∷ [] }
+-- a horizontal force, with six times its height above the base's underside, which is negative where it pushes below that
+abbrev pub across : Sort → ℕ → ℤ → Component
+across sort force sixfold = record { sort = sort; row = pos 0 ∷ pos force ∷ (pos force *ℤ sixfold) ∷ [] }
 
 -- six times the distance of the heel's middle from the toe, l - lh/2
 abbrev pub overHeel : Wall → ℕ
@@ -102,24 +106,31 @@ unfoldable pub weightRows : Wall → List Component
 weightRows wall =
     down deadWeight (stemWeight wall) (6 * toeLength wall + 3 * stemThickness wall)
     ∷ down deadWeight (baseWeight wall) (3 * baseLength wall)
+    ∷ down deadWeight (downstandWeight wall) (6 * downstandPosition wall + 3 * downstandThickness wall)
     ∷ down deadWeight (saturatedWeight wall) (overHeel wall)
     ∷ down deadWeight (moistWeight wall) (overHeel wall)
     ∷ down liveWeight (surchargeWeight wall) (overHeel wall)
     ∷ []
 
-unfoldable pub pushRows : Wall → ℕ → ℕ → ℕ → List Component
-pushRows wall K h hw =
-    across livePush (surchargePush wall K h) (3 * h)
-    ∷ across deadPush (moistPush wall K h hw) (2 * (h + 2 * hw))
-    ∷ across deadPush (moistPushBelow wall K h hw) (3 * hw)
-    ∷ across deadPush (saturatedPush wall K hw) (2 * hw)
-    ∷ across deadPush (waterPush hw) (2 * hw)
+-- a difference of whole numbers, with its sign
+infix 5 _less_
+abbrev pub _less_ : ℕ → ℕ → ℤ
+a less b = pos a -ℤ pos b
+
+-- on a face whose foot lies dd below the base's underside: the levers (h - 2dd)/2, (h + 2hw - 3dd)/3, (hw - 2dd)/2, and (hw - 3dd)/3 twice, in sixths
+unfoldable pub pushRows : Wall → ℕ → ℕ → ℕ → ℕ → List Component
+pushRows wall K h hw dd =
+    across livePush (surchargePush wall K h) (3 * h less 6 * dd)
+    ∷ across deadPush (moistPush wall K h hw) (2 * (h + 2 * hw) less 6 * dd)
+    ∷ across deadPush (moistPushBelow wall K h hw) (3 * hw less 6 * dd)
+    ∷ across deadPush (saturatedPush wall K hw) (2 * hw less 6 * dd)
+    ∷ across deadPush (waterPush hw) (2 * hw less 6 * dd)
     ∷ []
 
 -- one part of a load: a weight where the load acts down, and a push where it acts across
 unfoldable pub loadRow : Sort → Sort → (Load → ℕ) → Load → Component
 loadRow weight push part load =
-    cond (isDown load) (down weight (part load) (6 * position load)) (across push (part load) (6 * position load))
+    cond (isDown load) (down weight (part load) (6 * position load)) (across push (part load) (pos (6 * position load)))
 
 unfoldable pub deadRow : Load → Component
 deadRow load = loadRow deadWeight deadPush deadLoad load
@@ -132,7 +143,7 @@ unfoldable pub loadTable : List Load → List Component
 loadTable loads = map deadRow loads ++ map liveRow loads
 
 unfoldable pub table : ℕ → Wall → List Load → List Component
-table K wall loads = weightRows wall ++ pushRows wall K (wallHeight wall) (waterHeight wall) ++ loadTable loads
+table K wall loads = weightRows wall ++ pushRows wall K (wallHeight wall) (waterHeight wall) (downstandDepth wall) ++ loadTable loads
 
 -- ---- the totals: sums of a column, each row weighted by its sort
 
@@ -204,7 +215,7 @@ factored wall loads = totals tenths (table (restCoefficient wall) wall loads)
 -- ---- sliding, in service figures; passive force and friction are rounded down
 
 unfoldable pub passiveDepth : Wall → ℕ
-passiveDepth wall = coverInFront wall + baseThickness wall - excavation wall
+passiveDepth wall = coverInFront wall + baseThickness wall + downstandDepth wall - excavation wall
 
 unfoldable pub passive : Wall → ℕ
 passive wall = roundedDown (passiveCoefficient wall * soilDensity wall * squared (passiveDepth wall)) (2 * thousandths * perVolume)

@@ -2,10 +2,10 @@
 use Prim.Native.Nat.{ℕ, zero, suc, _+_, _-_, _*_}
 use mathlib.Core.Bool.{Bool, false, _&&_, _||_, cond}
 use mathlib.Core.List.{List, [], _∷_}
-use lib.Dec.{leb, eqb}
+use lib.Dec.{leb, ltb, eqb}
 use lib.ListN.{getD, drop}
 use Rattle.rules.specs.declared.Range.{Range}
-use Rattle.rules.specs.declared.Range.the-variants.{Between, UpToTop, ABar}
+use Rattle.rules.specs.declared.Range.the-variants.{Between, UpToTop, AlongBase, UnderBase, ABar}
 
 -- a job file is the list of its bytes; a wall is the list of its fields, in file order
 abbrev pub File : Type 0
@@ -42,9 +42,9 @@ u32sAt file at (suc n) = u32At file at ∷ u32sAt file (at + 4) n
 abbrev pub headerBytes : ℕ
 headerBytes = 12
 
--- the edition that is read and written
+-- the edition that is read and written (#107 of document 02)
 abbrev pub thisEdition : ℕ
-thisEdition = 1
+thisEdition = 2
 
 abbrev pub edition : File → ℕ
 edition file = u16At file 0
@@ -64,10 +64,10 @@ firstLoadOffset file = u16At file 8
 abbrev pub wholeLength : File → ℕ
 wholeLength file = u16At file 10
 
--- ---- the records: walls of 35 u32, and behind them entries of 5 u32
+-- ---- the records: walls of 38 u32, and behind them entries of 5 u32
 
 abbrev pub wallFields : ℕ
-wallFields = 35
+wallFields = 38
 
 abbrev pub entryFields : ℕ
 entryFields = 5
@@ -161,7 +161,7 @@ coverInFront wall = field wall 7
 abbrev pub excavation : Wall → ℕ
 excavation wall = field wall 8
 
--- water height hw above the base's underside
+-- water height hw, above the underside of the downstand, or of the base where there is none
 abbrev pub waterHeight : Wall → ℕ
 waterHeight wall = field wall 9
 
@@ -252,12 +252,26 @@ heelSpacing wall = field wall 34
 abbrev pub heelStress : Wall → ℕ
 heelStress wall = field wall 35
 
--- the base's length l and the wall's height h, by document 01's "Forces"
+-- the downstand under the base (#107 of document 02): depth dd, position ld from the toe, thickness td
+abbrev pub downstandDepth : Wall → ℕ
+downstandDepth wall = field wall 36
+
+abbrev pub downstandPosition : Wall → ℕ
+downstandPosition wall = field wall 37
+
+abbrev pub downstandThickness : Wall → ℕ
+downstandThickness wall = field wall 38
+
+-- the base's length l, by document 01's "Forces"
 unfoldable pub baseLength : Wall → ℕ
 baseLength wall = toeLength wall + stemThickness wall + heelLength wall
 
+-- how high the crest stands above the base's underside, and the wall's height h, above the downstand's
+unfoldable pub crestHeight : Wall → ℕ
+crestHeight wall = stemHeight wall + baseThickness wall
+
 unfoldable pub wallHeight : Wall → ℕ
-wallHeight wall = stemHeight wall + baseThickness wall
+wallHeight wall = crestHeight wall + downstandDepth wall
 
 -- ---- the range of each field
 
@@ -268,12 +282,18 @@ unfoldable pub among : ℕ → List ℕ → Bool
 among n [] = false
 among n (m ∷ ms) = eqb n m || among n ms
 
+abbrev pub hasDownstand : Wall → Bool
+hasDownstand wall = ltb 0 (downstandDepth wall)
+
 unfoldable pub within : Wall → Range → ℕ → Bool
 within wall (Between low high) n = leb low n && leb n high
 within wall UpToTop n = leb n (wallHeight wall)
+within wall AlongBase n = cond (hasDownstand wall) (leb n (baseLength wall)) (eqb n 0)
+within wall (UnderBase low high) n =
+    cond (hasDownstand wall) (leb low n && leb n high && leb (downstandPosition wall + n) (baseLength wall)) (eqb n 0)
 within wall ABar n = among n bars
 
--- a line for each row of document 01's table, and the last for the heel
+-- a line for each row of document 01's table, and behind them one for the heel and one for the downstand
 abbrev pub ranges : List Range
 ranges =
     Between 0 1
@@ -294,6 +314,7 @@ ranges =
     ∷ Between 20 75 ∷ ABar ∷ Between 50 500
     ∷ Between 1 5000 ∷ Between 1 5000
     ∷ Between 20 75 ∷ ABar ∷ Between 50 500 ∷ Between 1 5000
+    ∷ Between 0 1000 ∷ AlongBase ∷ UnderBase 100 1500
     ∷ []
 
 -- the number of the first field out of range, from a number on; 0 where there is none
@@ -332,9 +353,9 @@ isDown load = eqb (direction load) 0
 abbrev pub greatestLoad : ℕ
 greatestLoad = 200000
 
--- the furthest position
+-- the furthest position: a horizontal load stands no higher than the crest
 unfoldable pub reach : Wall → Load → ℕ
-reach wall load = cond (isDown load) (baseLength wall) (wallHeight wall)
+reach wall load = cond (isDown load) (baseLength wall) (crestHeight wall)
 
 unfoldable pub loadFits : Wall → Load → Bool
 loadFits wall load =

@@ -147,17 +147,17 @@ unfoldable pub stemLoadRows : Wall → Load → List Component
 stemLoadRows wall load =
     cond (isDown load || ltb (position load) (baseThickness wall))
     []
-    (across deadPush (deadLoad load) (6 * (position load - baseThickness wall))
-    ∷ across livePush (liveLoad load) (6 * (position load - baseThickness wall))
+    (across deadPush (deadLoad load) (pos (6 * (position load - baseThickness wall)))
+    ∷ across livePush (liveLoad load) (pos (6 * (position load - baseThickness wall)))
     ∷ [])
 
 unfoldable pub stemLoadTable : Wall → List Load → List Component
 stemLoadTable wall [] = []
 stemLoadTable wall (load ∷ rest) = stemLoadRows wall load ++ stemLoadTable wall rest
 
--- the wall's kind isn't read: a prop at the base leaves the stem as it is
+-- its foot is the base's top, and a downstand lies below that. The wall's kind isn't read: a prop at the base leaves the stem as it is
 unfoldable pub stemTable : Wall → List Load → List Component
-stemTable wall loads = pushRows wall (restCoefficient wall) (stemHeight wall) (saturatedHeight wall) ++ stemLoadTable wall loads
+stemTable wall loads = pushRows wall (restCoefficient wall) (stemHeight wall) (saturatedHeight wall) 0 ++ stemLoadTable wall loads
 
 -- the shear from tenths of a N, the moment from tenths of a sixth of a N mm
 unfoldable pub stemAction : Wall → List Load → Action

@@ -13,6 +13,10 @@ pub enum Range {
     Between(u32, u32),
     // from 0 to the wall's own height
     UpToTop,
+    // where a downstand begins: from 0 to the base's length; 0 without one
+    AlongBase,
+    // how thick a downstand is: from a number to another, both included, and no further than the base reaches; 0 without one
+    UnderBase(u32, u32),
     // one of the bars' diameters
     ABar,
 }

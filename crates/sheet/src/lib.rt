@@ -65,7 +65,7 @@ fn put_lines(job: &[u8], out: &mut [i64])
     }
 }
 
-// The sheet of a job in numbers: sixteen for each wall, in the order of its line, and whatever stands behind them as it was; or the refusal, and
+// The sheet of a job in numbers: nineteen for each wall, in the order of its line, and whatever stands behind them as it was; or the refusal, and
 // the buffer as it was.
 pub fn calculate(job: &[u8], out: &mut [i64]) -> Answer
     ensures { λ r. ⌜ Calculates (now (job .entry)) (now (out .entry)) r (now (out .exit)) ⌝ }

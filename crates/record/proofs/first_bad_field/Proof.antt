@@ -14,10 +14,10 @@ use Rattle.record.proofs.first_bad_field.Statement.{statement}
 use Rattle.record.proofs.first_bad_field.Tie as tie
 
 abbrev Inv-loop : tie.InvT-loop
-Inv-loop wall its top i₀ i = (i ≤ wallFields) × (firstBadField wall ≡ firstOutside wall (suc i) (drop i ranges))
+Inv-loop wall its measures i₀ i = (i ≤ wallFields) × (firstBadField wall ≡ firstOutside wall (suc i) (drop i ranges))
 
 abbrev μ-loop : tie.MeasureT-loop
-μ-loop wall its top i₀ i = wallFields - i
+μ-loop wall its measures i₀ i = wallFields - i
 
 loop-holds : tie.Need-loop-holds Inv-loop μ-loop
 unfolding firstBadField
@@ -32,7 +32,7 @@ next c =
     let i = d .loop .i in
     let h = c .before .before .loop-test .taken in
     let k : suc i - 1 ≡ i = omega arith in
-    d .loop .inv .1 ∙ rw (drop-cons ranges i (Between 0 0) h, k, ← c .is-within .ensures _ (d .before .wall-height .ensures))
+    d .loop .inv .1 ∙ rw (drop-cons ranges i (Between 0 0) h, k, ← c .is-within .ensures _ (d .before .measures-of .ensures))
 
 returns : tie.Need-returns Inv-loop μ-loop
 returns c = rw add-one (sym (rw (not-true (c .before .is-within .result) (c .if1 .taken)) at (next (c .before))))

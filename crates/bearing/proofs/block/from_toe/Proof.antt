@@ -12,6 +12,6 @@ returns c = cc
 
 pub from-toe-spec : {M : Type 1} → statement M
 from-toe-spec =
-    tie.close (tie.spec (λ c. search needs) (λ c. record { fits = omega (arith, bounds (c .pre)) })
-    (λ c κs. let b = bounds (c .pre) in (omega (arith, c .pre), omega (arith, c .pre))) (λ c κs. search needs) (λ c. search needs)
-    (λ c κs. let b = bounds (c .before .before .pre) in (omega (arith, c .before .before .pre), omega (arith, c .before .before .pre))) returns)
+    tie.close (tie.spec (λ c. search needs) (λ c. record { fits = omega (arith, bounds (c .pre .0)) })
+    (λ c κs. let b = bounds (c .pre .0) in (omega (arith, c .pre), omega (arith, c .pre))) (λ c κs. search needs) (λ c. search needs)
+    (λ c κs. let b = bounds (c .before .before .pre .0) in (omega (arith, c .before .before .pre), omega (arith, c .before .before .pre))) returns)

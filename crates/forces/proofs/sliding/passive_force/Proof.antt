@@ -8,10 +8,10 @@ use Rattle.forces.proofs.sliding.passive_force.Statement.{statement}
 use Rattle.forces.proofs.sliding.passive_force.Tie as tie
 
 -- the ranges of the fields, where the last of them is read
-abbrev start : tie.After-field5 → tie.Start
-start c = c .before .before .before .before .before .before
+abbrev start : tie.After-field6 → tie.Start
+start c = c .before .before .before .before .before .before .before
 
-within : (c : tie.After-field5) → WallWithin (start c .args .wall)
+within : (c : tie.After-field6) → WallWithin (start c .args .wall)
 within c = wall-within _ (start c .pre)
 
 returns : tie.Need-returns
@@ -20,6 +20,6 @@ returns c = cc
 
 pub passive-force-spec : {M : Type 1} → statement M
 passive-force-spec =
-    tie.close (tie.spec (λ c κs. search needs) (λ c κs. search needs) (λ c. search needs) (λ c κs. search needs) (λ c κs. search needs)
-    (λ c κs. search needs) (λ c κs. search needs) (λ c. two-fit (omega (arith, within c))) (λ c. two-fit (omega (arith, within c)))
+    tie.close (tie.spec (λ c κs. search needs) (λ c κs. search needs) (λ c. search needs) (λ c κs. search needs) (λ c. search needs)
+    (λ c κs. search needs) (λ c κs. search needs) (λ c κs. search needs) (λ c κs. search needs) (λ c. two-fit (omega (arith, within c))) (λ c. two-fit (omega (arith, within c)))
     (λ c. pairs-fit (omega (arith, within c))) (λ c κs. search needs) returns)

@@ -19,14 +19,14 @@ push-rows-requires c κs =
     let f = fitted (c .before .before .before) in
     let w = wall-within _ (f .wall-fits) in
     let face = stem-face w in
-    (f .wall-fits, record { coefficient = omega arith; height = omega arith; water = omega arith })
+    (f .wall-fits, record { coefficient = omega arith; height = omega arith; water = omega arith }, omega arith)
 
 filled-requires : tie.Need-filled-requires
 filled-requires c κs = rw (c .loads-on-stem .ensures) (loads-small _ _ (stem-fit _ _ _ (fitted (c .before .before .before .before .before))))
 
 returns : tie.Need-returns
 unfolding stemInPlace
-returns c = cc (in-place noWeights (pushRows _ _ _ _) _)
+returns c = cc (in-place noWeights (pushRows _ _ _ _ 0) _)
 
 pub table-of-stem-spec : {M : Type 1} → statement M
 table-of-stem-spec =

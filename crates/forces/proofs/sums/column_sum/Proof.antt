@@ -9,6 +9,7 @@ use lib.ListN.{getD}
 use mir.Syntax.{w64}
 use mir.Val.{SFits, ofZ, toZ}
 use Rattle.whole.specs.Sum.{sumTo}
+use Rattle.rules.proofs.Sizes.{greatestCell}
 use Rattle.whole.proofs.Integer.{abs-add, abs-weighted, fits-abs, back}
 use Rattle.forces.specs.Tables.{components}
 use Rattle.forces.specs.Sorts.{weighted, weightedSum, Small, Light}
@@ -39,7 +40,7 @@ module _ {table : List (List ℤ)} {sorts : List ℕ} {weights : List ℤ} {colu
   summed = sumTo (weighted table sorts weights column) i
 
   -- none of these is great, and nor is the product
-  sizes : (natAbs weight ≤ 16) × (natAbs cell ≤ 100000000000) × (natAbs (weight *ℤ cell) ≤ 1600000000000) × (natAbs summed ≤ 26 * 1600000000000)
+  sizes : (natAbs weight ≤ 16) × (natAbs cell ≤ greatestCell) × (natAbs (weight *ℤ cell) ≤ 16 * greatestCell) × (natAbs summed ≤ components * (16 * greatestCell))
   sizes =
       let light = passed .light .at-most (getD sorts i 0) in
       let small = passed .small .cells i column in

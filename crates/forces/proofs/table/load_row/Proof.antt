@@ -1,5 +1,6 @@
 -- `forces::table::load_row` meets its contract. A load acts down or across.
 use Prim.Native.Nat.{_≤_}
+use native.Mathlib.Nat.{add-zero}
 use native.Mathlib.Omega.{arith}
 use borrow.Author.Needs.{needs}
 use borrow.Author.Tests.{eq-eqb, ne-eqb}
@@ -22,7 +23,7 @@ returns-2 : tie.Need-returns-2
 unfolding partRow isDown
 returns-2 c =
     let way = ne-eqb (direction (c .before .before .before .before .args .t1)) 0 (λ e. omega arith) in
-    rw (way, c .across .ensures, c .before .before .before .wide .ensures .0, c .before .before .wide2 .ensures .0)
+    rw (way, c .across .ensures, c .before .before .before .wide .ensures .0, c .before .before .wide2 .ensures .0, add-zero)
 
 pub load-row-spec : {M : Type 1} → statement M
 load-row-spec =
