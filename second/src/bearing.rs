@@ -1,4 +1,5 @@
-//! Document 01, "The bearing block": the straight-line pressure under a base.
+//! Document 01, "The bearing block": the straight-line pressure under a base; with
+//! document 02, "#107 Downstands", where M6 may be 6Rl or more.
 
 use crate::rounding::up;
 use crate::Whole;
@@ -40,9 +41,9 @@ pub struct Block {
 
 const NOUGHT: Fraction = Fraction { over: 0, under: 1 };
 
-/// N over mm of a metre run is kN/m2, so R over l needs no scale. `None` for
-/// M6 at or below 0. R and l are above 0 for every accepted wall, and so is
-/// 6Rl - M6; other figures get no block either.
+/// N over mm of a metre run is kN/m2, so R over l needs no scale. `None` for M6 at or
+/// below 0, and for M6 at or past 6Rl. R and l are above 0 for every accepted wall; other
+/// figures get no block either.
 pub fn block(r: Whole, m6: Whole, l: Whole) -> Option<Block> {
     let left = 6 * r * l - m6;
     if r <= 0 || l <= 0 || m6 <= 0 || left <= 0 {
@@ -123,8 +124,10 @@ impl Reported {
 #[derive(Clone, Copy, Debug, PartialEq)]
 pub enum Bearing {
     Given(Reported),
-    /// M6 is not above 0.
+    /// M6 is not above 0: R would stand at the toe's end or before it.
     NoBlock,
+    /// M6 is not below 6Rl: R would stand at the heel's end or past it.
+    PastHeel,
     /// The reported peak is over [`GREATEST_PEAK`], in service or factored
     /// N/m2 alike.
     PeakTooGreat(Reported),
@@ -133,6 +136,7 @@ pub enum Bearing {
 impl Bearing {
     pub fn of(r: Whole, m6: Whole, l: Whole, case: Case) -> Bearing {
         match block(r, m6, l).map(|block| Reported::of(block, case)) {
+            None if m6 > 0 => Bearing::PastHeel,
             None => Bearing::NoBlock,
             Some(reported) if reported.peak() > GREATEST_PEAK => Bearing::PeakTooGreat(reported),
             Some(reported) => Bearing::Given(reported),

@@ -1,4 +1,5 @@
-//! Document 01, "Forces": weights, pushes, totals, sliding and the prop.
+//! Document 01, "Forces": weights, pushes, totals, sliding and the prop; with document
+//! 02, "#107 Downstands".
 //!
 //! Forces are whole N per metre run, moments are sixths of a N mm.
 
@@ -10,7 +11,7 @@ use crate::Whole;
 pub const WATER_DENSITY: Whole = 981;
 
 /// mm x mm x (10 N/m3) = 10 x 10^-6 N: a weight is its product over 10^5.
-const WEIGHT_SCALE: Whole = 100_000;
+pub const WEIGHT_SCALE: Whole = 100_000;
 /// (10 N/m2) x mm = 10 x 10^-3 N.
 const SURCHARGE_WEIGHT_SCALE: Whole = 100;
 /// The surcharge's scale with a coefficient in thousandths.
@@ -67,8 +68,9 @@ impl Action {
     }
 }
 
-/// A row of the component table. The moment is about the toe (or the foot of
-/// the part looked at), above 0 both for restoring and for overturning.
+/// A row of the component table. The moment is about the toe, at the underside of the
+/// base (or about the foot of the part looked at); above 0 it restores of a weight and
+/// overturns of a push. A push that stands below that point has one below 0.
 #[derive(Clone, Copy, Debug, PartialEq, Eq)]
 pub struct Component {
     pub action: Action,
@@ -87,7 +89,7 @@ fn weight(action: Action, force: Whole, six_distances: Whole) -> Component {
     }
 }
 
-/// A force towards the toe; its height is in sixths of a mm.
+/// A force towards the toe; its height is in sixths of a mm, and may be below 0.
 fn push(action: Action, force: Whole, six_heights: Whole) -> Component {
     Component {
         action,
@@ -97,10 +99,11 @@ fn push(action: Action, force: Whole, six_heights: Whole) -> Component {
     }
 }
 
-/// Stem, base, the two fills and the surcharge over the heel. Reading taken: the
-/// surcharge stands among the weights, so it is rounded as one, halves up.
-pub fn weights(wall: &Wall) -> [Component; 5] {
+/// Stem, base, downstand, the two fills and the surcharge over the heel. Reading taken:
+/// the surcharge stands among the weights, so it is rounded as one, halves up.
+pub fn weights(wall: &Wall) -> [Component; 6] {
     let length = wall.base_length();
+    let downstand = &wall.downstand;
     let wet = wall.water_on_base();
     let dry = wall.stem_height - wet;
     let block = |area: Whole, density: Whole| half_up(area * density, WEIGHT_SCALE);
@@ -117,6 +120,11 @@ pub fn weights(wall: &Wall) -> [Component; 5] {
             3 * length,
         ),
         weight(
+            OwnWeight,
+            block(downstand.depth * downstand.thickness, wall.base_density),
+            6 * downstand.position + 3 * downstand.thickness,
+        ),
+        weight(
             Fill,
             block(wall.heel * wet, wall.saturated_density),
             over_heel,
@@ -130,12 +138,46 @@ pub fn weights(wall: &Wall) -> [Component; 5] {
     ]
 }
 
-/// The five pushes on a back of the given height with water up to `water`,
-/// both mm above the foot, for a coefficient in thousandths.
-pub fn pushes(wall: &Wall, coefficient: Whole, height: Whole, water: Whole) -> [Component; 5] {
+/// What the fill pushes on: its height and the water's, mm above its foot, and how far
+/// above the foot the point is about which moments are taken.
+#[derive(Clone, Copy, Debug, PartialEq, Eq)]
+pub struct Back {
+    pub height: Whole,
+    pub water: Whole,
+    pub point: Whole,
+}
+
+impl Back {
+    /// From the underside of the downstand up; moments about the underside of the base.
+    pub fn of_wall(wall: &Wall) -> Back {
+        Back {
+            height: wall.height(),
+            water: wall.water_height,
+            point: wall.downstand.depth,
+        }
+    }
+
+    /// From the top of the base up; moments about it.
+    pub fn of_stem(wall: &Wall) -> Back {
+        Back {
+            height: wall.stem_height,
+            water: wall.water_on_base(),
+            point: 0,
+        }
+    }
+}
+
+/// The five pushes on a back, for a coefficient in thousandths.
+pub fn pushes(wall: &Wall, coefficient: Whole, back: Back) -> [Component; 5] {
+    let Back {
+        height,
+        water,
+        point,
+    } = back;
     let moist = coefficient * wall.moist_density;
     let buoyant = coefficient * (wall.saturated_density - WATER_DENSITY);
     let above = height - water;
+    let push = |action, force, six_heights: Whole| push(action, force, six_heights - 6 * point);
     [
         push(
             SurchargePush,
@@ -184,7 +226,7 @@ pub fn load_components(load: &Load, datum: Whole) -> [Component; 2] {
 /// The component table of a whole wall for one coefficient of earth pressure.
 pub fn component_table(wall: &Wall, loads: &[Load], coefficient: Whole) -> Vec<Component> {
     let mut table = weights(wall).to_vec();
-    table.extend(pushes(wall, coefficient, wall.height(), wall.water_height));
+    table.extend(pushes(wall, coefficient, Back::of_wall(wall)));
     table.extend(loads.iter().flat_map(|load| load_components(load, 0)));
     table
 }
@@ -229,7 +271,8 @@ pub fn factored_totals(wall: &Wall, loads: &[Load]) -> Totals {
 
 /// mm of soil in front that still resists.
 pub fn passive_depth(wall: &Wall) -> Whole {
-    (wall.cover_in_front + wall.base_thickness - wall.excavation).max(0)
+    let covered = wall.cover_in_front + wall.base_thickness + wall.downstand.depth;
+    (covered - wall.excavation).max(0)
 }
 
 /// N, rounded down.

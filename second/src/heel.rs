@@ -41,7 +41,8 @@ pub fn weighed(wall: &Wall) -> [Effects; 3] {
     [slab(wall), fill, surcharge]
 }
 
-/// Worked from the slab itself, not from the rounded weight of the base.
+/// Worked from the slab itself, not from the rounded weight of the base. A downstand is
+/// no part of it.
 fn slab(wall: &Wall) -> Effects {
     // 14 tenths x (10 N/m3) x mm = 14/1000 N/m2, and (N/m2) x mm = N/1000.
     let a_mm = 14 * wall.base_density * wall.base_thickness;

@@ -1,11 +1,12 @@
 //! Document 01, "The job file": the layout, the fields and their ranges; with the four
-//! fields of the heel that document 02 adds, "#103 Heel steel".
+//! fields of the heel that document 02 adds, "#103 Heel steel", and the three of the
+//! downstand and the edition, "#107 Downstands".
 
 use crate::Whole;
 
-pub const EDITION: u16 = 1;
+pub const EDITION: u16 = 2;
 pub const HEADER_BYTES: usize = 12;
-pub const WALL_FIELDS: usize = 35;
+pub const WALL_FIELDS: usize = 38;
 pub const LOAD_FIELDS: usize = 5;
 pub const WALL_BYTES: usize = 4 * WALL_FIELDS;
 pub const LOAD_BYTES: usize = 4 * LOAD_FIELDS;
@@ -55,6 +56,9 @@ pub mod field {
     pub const HEEL_BAR: usize = 32;
     pub const HEEL_SPACING: usize = 33;
     pub const HEEL_SHEAR_STRESS: usize = 34;
+    pub const DOWNSTAND_DEPTH: usize = 35;
+    pub const DOWNSTAND_POSITION: usize = 36;
+    pub const DOWNSTAND_THICKNESS: usize = 37;
 }
 
 pub type RawWall = [u32; WALL_FIELDS];
@@ -65,11 +69,19 @@ pub type RawLoad = [u32; LOAD_FIELDS];
 pub enum Range {
     Between(u32, u32),
     Bar,
-    /// 0 up to stem height + base thickness of the same wall.
+    /// 0 up to stem height + base thickness + depth of downstand of the same wall.
     Water,
+    /// 0 up to the length of the same wall's base; 0 alone without a downstand.
+    DownstandPosition,
+    /// The range of [`DOWNSTAND_THICKNESSES`], and with the position no more than the
+    /// length of the same wall's base; 0 alone without a downstand.
+    DownstandThickness,
 }
 
-use Range::{Bar, Between, Water};
+use Range::{Bar, Between, DownstandPosition, DownstandThickness, Water};
+
+/// The least and the greatest thickness of a downstand, mm.
+pub const DOWNSTAND_THICKNESSES: (u32, u32) = (100, 1500);
 
 pub const RANGES: [Range; WALL_FIELDS] = [
     Between(0, 1),
@@ -107,18 +119,36 @@ pub const RANGES: [Range; WALL_FIELDS] = [
     Bar,
     Between(50, 500),
     Between(1, 5000),
+    Between(0, 1000),
+    DownstandPosition,
+    DownstandThickness,
 ];
 
-/// Whether a wall field, counted from 0, is within its range. Water is judged by
-/// the heights of its own record as they stand, in range or not.
+/// Whether a wall field, counted from 0, is within its range. Water and downstand are
+/// judged by the lengths of their own record as they stand, in range or not. Their sums
+/// are taken in 64 bits, where none is cut.
 pub fn field_in_range(raw: &RawWall, index: usize) -> bool {
     let value = raw[index];
+    let sum = |fields: &[usize]| -> u64 { fields.iter().map(|at| u64::from(raw[*at])).sum() };
+    let base_length = || sum(&[field::TOE, field::STEM_THICKNESS, field::HEEL]);
+    let no_downstand = raw[field::DOWNSTAND_DEPTH] == 0;
     match RANGES[index] {
         Between(low, high) => (low..=high).contains(&value),
         Bar => BARS.contains(&value),
         Water => {
-            let crest = u64::from(raw[field::STEM_HEIGHT]) + u64::from(raw[field::BASE_THICKNESS]);
-            u64::from(value) <= crest
+            let heights = [
+                field::STEM_HEIGHT,
+                field::BASE_THICKNESS,
+                field::DOWNSTAND_DEPTH,
+            ];
+            u64::from(value) <= sum(&heights)
+        }
+        DownstandPosition | DownstandThickness if no_downstand => value == 0,
+        DownstandPosition => u64::from(value) <= base_length(),
+        DownstandThickness => {
+            let (low, high) = DOWNSTAND_THICKNESSES;
+            let end = sum(&[field::DOWNSTAND_POSITION, field::DOWNSTAND_THICKNESS]);
+            (low..=high).contains(&value) && end <= base_length()
         }
     }
 }
@@ -198,6 +228,16 @@ pub struct Reinforcement {
     pub concrete_shear_stress: Whole,
 }
 
+/// What stands down from the base into the ground, mm; all 0 where nothing does.
+#[derive(Clone, Copy, Debug, PartialEq, Eq)]
+pub struct Downstand {
+    /// Below the underside of the base.
+    pub depth: Whole,
+    /// From the front edge of the toe to its front face.
+    pub position: Whole,
+    pub thickness: Whole,
+}
+
 /// One wall. Where nothing else is said, a length counts mm, a density tens of
 /// N/m3 and a coefficient thousandths.
 #[derive(Clone, Debug, PartialEq, Eq)]
@@ -233,6 +273,7 @@ pub struct Wall {
     pub toe_bars: Reinforcement,
     pub stem_bars: Reinforcement,
     pub heel_bars: Reinforcement,
+    pub downstand: Downstand,
 }
 
 impl Wall {
@@ -265,6 +306,11 @@ impl Wall {
             toe_bars: reinforcement(raw, field::TOE_COVER, field::TOE_SHEAR_STRESS),
             stem_bars: reinforcement(raw, field::STEM_COVER, field::STEM_SHEAR_STRESS),
             heel_bars: reinforcement(raw, field::HEEL_COVER, field::HEEL_SHEAR_STRESS),
+            downstand: Downstand {
+                depth: of(field::DOWNSTAND_DEPTH),
+                position: of(field::DOWNSTAND_POSITION),
+                thickness: of(field::DOWNSTAND_THICKNESS),
+            },
         }
     }
 
@@ -273,14 +319,20 @@ impl Wall {
         self.toe + self.stem_thickness + self.heel
     }
 
-    /// h: the fill from the base underside to the top, mm.
-    pub fn height(&self) -> Whole {
+    /// The crest above the underside of the base, mm.
+    pub fn crest(&self) -> Whole {
         self.stem_height + self.base_thickness
+    }
+
+    /// h: the fill from the underside of the downstand, or of a base without one, to the
+    /// top, mm. The water's height counts from there too.
+    pub fn height(&self) -> Whole {
+        self.crest() + self.downstand.depth
     }
 
     /// hsat: the water's height above the top of the base, mm.
     pub fn water_on_base(&self) -> Whole {
-        (self.water_height - self.base_thickness).max(0)
+        (self.water_height - self.base_thickness - self.downstand.depth).max(0)
     }
 }
 
@@ -301,7 +353,7 @@ pub enum Direction {
 }
 
 /// One load, in N per metre run. The position is mm from the toe for a load
-/// down, mm above the base underside for a horizontal one.
+/// down, mm above the underside of the base for a horizontal one, downstand or not.
 #[derive(Clone, Copy, Debug, PartialEq, Eq)]
 pub struct Load {
     /// Counted from 1.
@@ -320,7 +372,7 @@ impl Load {
         let carrier = walls.get(wall.checked_sub(1)?)?;
         let (direction, furthest) = match direction {
             0 => (Direction::Down, carrier.base_length()),
-            1 => (Direction::Across, carrier.height()),
+            1 => (Direction::Across, carrier.crest()),
             _ => return None,
         };
         let position = Whole::from(position);

@@ -7,6 +7,7 @@
 pub mod answers;
 pub mod bearing;
 pub mod compare;
+pub mod downstand;
 pub mod drawing;
 pub mod forces;
 pub mod generator;

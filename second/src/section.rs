@@ -6,7 +6,7 @@
 //! V in N, M in N mm and steel in hundredths of mm2, all per metre run.
 
 use crate::bearing::Reported;
-use crate::forces::{load_components, pushes, Action, Component};
+use crate::forces::{load_components, pushes, Action, Back, Component};
 use crate::heel::heel_effects;
 use crate::job_file::{Direction, Load, Reinforcement, Wall, BARS};
 use crate::rounding::{down, up};
@@ -22,7 +22,7 @@ pub struct Effects {
 
 /// The toe under a factored block, its own weight (1.4 times) taken off. The
 /// weight is worked from the slab itself, not from the rounded base weight, and
-/// over all of the toe, however little of it bears.
+/// over all of the toe, however little of it bears. A downstand is no part of it.
 pub fn toe_effects(wall: &Wall, bearing: &Reported) -> Effects {
     let borne = borne(wall, bearing);
     let twice_a = twice_middle(wall);
@@ -40,8 +40,7 @@ pub fn toe_effects(wall: &Wall, bearing: &Reported) -> Effects {
 /// The stem above the base. Each push is rounded up in whole N before its
 /// factor; the sums are rounded up once more.
 pub fn stem_effects(wall: &Wall, loads: &[Load]) -> Effects {
-    let mut table: Vec<Component> =
-        pushes(wall, wall.k0, wall.stem_height, wall.water_on_base()).to_vec();
+    let mut table: Vec<Component> = pushes(wall, wall.k0, Back::of_stem(wall)).to_vec();
     let top_of_base = wall.base_thickness;
     table.extend(
         loads

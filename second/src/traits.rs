@@ -2,9 +2,10 @@
 
 use crate::answers::accept;
 use crate::bearing::{Bearing, Block, Contact, Fraction, Reported, GREATEST_PEAK};
-use crate::forces::{passive_depth, Totals};
+use crate::downstand::Underfoot;
+use crate::forces::{passive_depth, pushes, Back, Totals, WEIGHT_SCALE};
 use crate::heel::{borne, less, pressed_down, weighed, Ground, Reach, MOMENT_PARTS, SHEAR_PARTS};
-use crate::job_file::{Direction, Job, Load, Wall};
+use crate::job_file::{Direction, Downstand, Job, Load, Wall};
 use crate::rounding::{down, up};
 use crate::section::{
     greatest_arm, greatest_moment, moment_borne, needed_at_depth, needed_is_exact, shear_passes,
@@ -84,11 +85,13 @@ pub const VOCABULARY: &[&str] = &[
     "service-heel",
     "service-none-moment",
     "service-none-peak",
+    "service-none-past-heel",
     "factored-whole",
     "factored-toe",
     "factored-heel",
     "factored-none-moment",
     "factored-none-peak",
+    "factored-none-past-heel",
     "service-m6-negative",
     "factored-m6-negative",
     "service-m6-is-0",
@@ -97,6 +100,12 @@ pub const VOCABULARY: &[&str] = &[
     "factored-m6-is-2rl",
     "service-m6-is-4rl",
     "factored-m6-is-4rl",
+    "service-m6-just-below-6rl",
+    "factored-m6-just-below-6rl",
+    "service-m6-is-6rl",
+    "factored-m6-is-6rl",
+    "service-m6-just-past-6rl",
+    "factored-m6-just-past-6rl",
     "service-peak-at-limit",
     "factored-peak-at-limit",
     // The failures.
@@ -234,6 +243,33 @@ pub const VOCABULARY: &[&str] = &[
     "heel-sum-not-whole",
     "heel-bearing-not-whole",
     "heel-peak-shows",
+    // The downstand, where it stands and what it weighs.
+    "no-downstand",
+    "downstand",
+    "downstand-under-toe",
+    "downstand-under-stem",
+    "downstand-under-heel",
+    "downstand-across-face",
+    "downstand-across-back",
+    "downstand-at-front-edge",
+    "downstand-at-back-edge",
+    "downstand-weight-half",
+    "downstand-weight-not-whole",
+    // Water, ground and loads beside it.
+    "water-in-downstand",
+    "water-at-base-underside",
+    "water-in-base",
+    "water-wets-base-but-for-downstand",
+    "passive-depth-by-downstand",
+    "downstand-across-at-crest",
+    "downstand-across-low-on-stem",
+    // Pushes that stand below the underside of the base.
+    "lever-surcharge-negative",
+    "lever-moist-above-negative",
+    "lever-moist-below-negative",
+    "lever-wet-negative",
+    "service-mot-negative",
+    "factored-mot-negative",
 ];
 
 /// One line: the answer's word first, then the rest in order of the alphabet.
@@ -303,6 +339,12 @@ fn wall_words(words: &mut Words, wall: &Wall, loads: &[Load]) {
     toe_words(words, wall, &worked);
     stem_words(words, wall, &worked.stem);
     heel_words(words, wall, loads, &worked);
+    either(words, wall.downstand.depth > 0, "downstand", "no-downstand");
+    if wall.downstand.depth > 0 {
+        downstand_words(words, wall);
+        beside_downstand_words(words, wall, loads);
+        lever_words(words, wall, &worked);
+    }
 }
 
 fn either(words: &mut Words, fact: bool, yes: &'static str, no: &'static str) {
@@ -328,11 +370,12 @@ fn shape_words(words: &mut Words, wall: &Wall) {
         "passive-depth",
     );
     let water = wall.water_height;
+    let base_top = wall.downstand.depth + wall.base_thickness;
     words.push(if water == 0 {
         "water-at-0"
-    } else if water < wall.base_thickness {
+    } else if water < base_top {
         "water-below-base-top"
-    } else if water == wall.base_thickness {
+    } else if water == base_top {
         "water-at-base-top"
     } else if water < wall.height() {
         "water-above-base-top"
@@ -379,15 +422,15 @@ fn place_across(position: Whole, wall: &Wall) -> &'static str {
         "across-below-base-top"
     } else if position == wall.base_thickness {
         "across-at-base-top"
-    } else if position < wall.height() {
+    } else if position < wall.crest() {
         "across-above-base-top"
     } else {
         "across-at-crest"
     }
 }
 
-/// The words of one case's block: whole, toe, heel, no moment, too great.
-fn bearing_word(bearing: &Bearing, names: [&'static str; 5]) -> &'static str {
+/// The words of one case's block: whole, toe, heel, no moment, too great, past the heel.
+fn bearing_word(bearing: &Bearing, names: [&'static str; 6]) -> &'static str {
     match bearing {
         Bearing::Given(reported) => match reported.block.kind {
             Contact::Whole => names[0],
@@ -396,18 +439,25 @@ fn bearing_word(bearing: &Bearing, names: [&'static str; 5]) -> &'static str {
         },
         Bearing::NoBlock => names[3],
         Bearing::PeakTooGreat(_) => names[4],
+        Bearing::PastHeel => names[5],
     }
 }
 
-/// The words of one case's edges: M6 negative, 0, 2Rl, 4Rl, peak at limit.
+/// The words of one case's edges: M6 negative, 0, 2Rl, 4Rl, just below 6Rl, 6Rl, just
+/// past it, peak at limit. What is nearer than a step of the loads is just below or past.
 fn edge_words(
     words: &mut Words,
     total: &Totals,
     l: Whole,
     bearing: &Bearing,
-    names: [&'static str; 5],
+    names: [&'static str; 8],
+    step: Whole,
 ) {
-    let [negative, nought, two, four, limit] = names;
+    let [negative, nought, two, four, below_six, six, past_six, limit] = names;
+    let left = 6 * total.r * l - total.m6;
+    note(words, (1..=step).contains(&left), below_six);
+    note(words, left == 0, six);
+    note(words, (1..=step).contains(&-left), past_six);
     note(words, total.m6 < 0, negative);
     note(words, total.m6 == 0, nought);
     note(words, total.m6 == 2 * total.r * l, two);
@@ -423,17 +473,23 @@ fn service_words(words: &mut Words, wall: &Wall, worked: &Worked) {
         "service-heel",
         "service-none-moment",
         "service-none-peak",
+        "service-none-past-heel",
     ];
     let edges = [
         "service-m6-negative",
         "service-m6-is-0",
         "service-m6-is-2rl",
         "service-m6-is-4rl",
+        "service-m6-just-below-6rl",
+        "service-m6-is-6rl",
+        "service-m6-just-past-6rl",
         "service-peak-at-limit",
     ];
     words.push(bearing_word(&worked.service_bearing, kinds));
     let l = wall.base_length();
-    edge_words(words, &worked.service, l, &worked.service_bearing, edges);
+    let (total, bearing) = (&worked.service, &worked.service_bearing);
+    // A N mm in sixths.
+    edge_words(words, total, l, bearing, edges, 6);
 }
 
 fn factored_words(words: &mut Words, wall: &Wall, worked: &Worked) {
@@ -443,17 +499,23 @@ fn factored_words(words: &mut Words, wall: &Wall, worked: &Worked) {
         "factored-heel",
         "factored-none-moment",
         "factored-none-peak",
+        "factored-none-past-heel",
     ];
     let edges = [
         "factored-m6-negative",
         "factored-m6-is-0",
         "factored-m6-is-2rl",
         "factored-m6-is-4rl",
+        "factored-m6-just-below-6rl",
+        "factored-m6-is-6rl",
+        "factored-m6-just-past-6rl",
         "factored-peak-at-limit",
     ];
     words.push(bearing_word(&worked.factored_bearing, kinds));
     let l = wall.base_length();
-    edge_words(words, &worked.factored, l, &worked.factored_bearing, edges);
+    let (total, bearing) = (&worked.factored, &worked.factored_bearing);
+    // A fifth of a N mm in tenths of sixths.
+    edge_words(words, total, l, bearing, edges, 12);
 }
 
 const BITS_SET: [&str; 9] = [
@@ -746,6 +808,66 @@ fn with_reported_pressures(bearing: &Reported) -> Reported {
         },
         ..*bearing
     }
+}
+
+/// Where a downstand stands, and how its weight comes to whole newtons.
+fn downstand_words(words: &mut Words, wall: &Wall) {
+    let place = Underfoot::of(wall);
+    note(words, place.under_toe(), "downstand-under-toe");
+    note(words, place.under_stem(), "downstand-under-stem");
+    note(words, place.under_heel(), "downstand-under-heel");
+    note(words, place.across_face(), "downstand-across-face");
+    note(words, place.across_back(), "downstand-across-back");
+    note(words, place.at_front_edge(), "downstand-at-front-edge");
+    note(words, place.at_back_edge(), "downstand-at-back-edge");
+    let Downstand {
+        depth, thickness, ..
+    } = wall.downstand;
+    let beyond_newtons = depth * thickness * wall.base_density % WEIGHT_SCALE;
+    let half = 2 * beyond_newtons == WEIGHT_SCALE;
+    note(words, half, "downstand-weight-half");
+    note(words, beyond_newtons > 0, "downstand-weight-not-whole");
+}
+
+/// Water that ends within the downstand's depth or the base's, ground in front that
+/// resists beside the downstand alone, and horizontal loads where its depth might be
+/// counted and isn't.
+fn beside_downstand_words(words: &mut Words, wall: &Wall, loads: &[Load]) {
+    let (depth, base, water) = (wall.downstand.depth, wall.base_thickness, wall.water_height);
+    let in_depth = 0 < water && water < depth;
+    note(words, in_depth, "water-in-downstand");
+    note(words, water == depth, "water-at-base-underside");
+    let in_base = depth < water && water < depth + base;
+    note(words, in_base, "water-in-base");
+    let wets_base = base < water && water <= base + depth;
+    note(words, wets_base, "water-wets-base-but-for-downstand");
+    let beside_downstand = passive_depth(wall);
+    let alone = (1..=depth).contains(&beside_downstand);
+    note(words, alone, "passive-depth-by-downstand");
+    let pushes = |load: &&Load| load.direction == Direction::Across && load.dead + load.live > 0;
+    for load in loads.iter().filter(pushes) {
+        let at_crest = load.position == wall.crest();
+        note(words, at_crest, "downstand-across-at-crest");
+        let low = (base..base + depth).contains(&load.position);
+        note(words, low, "downstand-across-low-on-stem");
+    }
+}
+
+/// Pushes that turn the wall back, and whether all of them together do. Saturated fill
+/// and water have one lever.
+fn lever_words(words: &mut Words, wall: &Wall, worked: &Worked) {
+    let moments = pushes(wall, wall.ka, Back::of_wall(wall)).map(|push| push.moment);
+    let names = [
+        "lever-surcharge-negative",
+        "lever-moist-above-negative",
+        "lever-moist-below-negative",
+        "lever-wet-negative",
+    ];
+    for (moment, name) in moments.into_iter().zip(names) {
+        note(words, moment < 0, name);
+    }
+    note(words, worked.service.mot < 0, "service-mot-negative");
+    note(words, worked.factored.mot < 0, "factored-mot-negative");
 }
 
 /// The words of a section's steel: compression, least, needed, fails, even,

@@ -2,7 +2,7 @@
 
 mod common;
 
-use common::accepted_jobs;
+use common::{accepted_jobs, downstand_jobs};
 use second::bearing::{block, Block, Contact, Fraction};
 use second::forces::Totals;
 use second::sheet_line::work_job;
@@ -53,13 +53,14 @@ fn carried(block: &Block, l: Whole) -> (Ratio, Ratio) {
     (force, moment)
 }
 
-fn hold(name: &str, total: &Totals, l: Whole, seen: &mut [usize; 4]) {
+fn hold(name: &str, total: &Totals, l: Whole, seen: &mut [usize; 5]) {
+    let six_rl = 6 * total.r * l;
     let Some(block) = block(total.r, total.m6, l) else {
-        assert!(total.m6 <= 0, "{name}");
-        seen[3] += 1;
+        assert!(total.m6 <= 0 || total.m6 >= six_rl, "{name}");
+        seen[3 + usize::from(total.m6 > 0)] += 1;
         return;
     };
-    assert!(total.m6 > 0, "{name}");
+    assert!(0 < total.m6 && total.m6 < six_rl, "{name}");
     let (force, moment) = carried(&block, l);
     assert_eq!(force, ratio(total.r, 1), "{name}");
     assert_eq!(moment, ratio(total.m6, 1), "{name}");
@@ -79,8 +80,9 @@ fn hold(name: &str, total: &Totals, l: Whole, seen: &mut [usize; 4]) {
 
 #[test]
 fn blocks_carry_r_at_m6_within_the_base() {
-    let (mut service, mut factored) = ([0; 4], [0; 4]);
-    for (name, job) in accepted_jobs(60) {
+    let (mut service, mut factored) = ([0; 5], [0; 5]);
+    // R is past the heel in few jobs but those for the downstand.
+    for (name, job) in accepted_jobs(60).into_iter().chain(downstand_jobs(150)) {
         for (wall, worked) in job.walls.iter().zip(work_job(&job)) {
             let l = wall.base_length();
             hold(&name, &worked.service, l, &mut service);

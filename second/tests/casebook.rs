@@ -17,15 +17,17 @@ use std::path::{Path, PathBuf};
 use std::process::Command;
 
 const SEED: u64 = 57;
-const COUNT: usize = 2240;
+const COUNT: usize = 2584;
 
 /// So many jobs of a kind are taken, the first ones.
 fn taken(kind: &str) -> usize {
     match kind {
-        "refused-field" => 70,
+        "refused-field" => 76,
         "edges" | "refused-offset" => 34,
         "heel" => 33,
+        "downstand" => 25,
         "toe-and-stem" | "refused-wall" => 16,
+        "refused-downstand" => 14,
         "steel-hundredth" => 13,
         "lever-arm" | "contact-end" => 12,
         "raw" => 8,
@@ -69,7 +71,7 @@ fn the_jobs_are_the_generators_byte_for_byte() {
     for (name, bytes) in &made {
         assert!(kept[name] == *bytes, "{name} isn't what generate makes");
     }
-    assert_eq!(kept.len(), 402);
+    assert_eq!(kept.len(), 447);
 }
 
 #[test]
@@ -102,6 +104,17 @@ fn last_line() -> String {
     format!("{again} jobs written again, byte for byte\n")
 }
 
+/// Fields that are bad in a wall with a downstand; all others in one without.
+const BESIDE_DOWNSTAND: [usize; 2] = [field::DOWNSTAND_DEPTH, field::DOWNSTAND_THICKNESS];
+
+/// The greatest thickness that a downstand may have where it begins.
+fn thickest(wall: &RawWall) -> u32 {
+    let length = wall[field::TOE] + wall[field::STEM_THICKNESS] + wall[field::HEEL];
+    length
+        .saturating_sub(wall[field::DOWNSTAND_POSITION])
+        .min(1500)
+}
+
 /// Of each field a job with the value just below its range, or what -1 becomes
 /// where that begins at 0, and one with the value just above it.
 #[test]
@@ -111,13 +124,18 @@ fn every_field_is_refused_below_and_above_its_range() {
         for above in [false, true] {
             let number = 2 * index + 1 + usize::from(above);
             let job = &jobs[&format!("refused-field-{number:04}.job")];
-            let walls: [RawWall; 3] = std::array::from_fn(|i| read_record(job, 12 + 140 * i));
+            let walls: [RawWall; 3] = std::array::from_fn(|i| read_record(job, 12 + 152 * i));
             let beyond = |wall: &RawWall| {
-                let high = match index {
-                    field::WATER_HEIGHT => wall[field::STEM_HEIGHT] + wall[field::BASE_THICKNESS],
-                    _ => high,
+                let (low, high) = match index {
+                    field::WATER_HEIGHT => {
+                        (0, wall[field::STEM_HEIGHT] + wall[field::BASE_THICKNESS])
+                    }
+                    field::DOWNSTAND_THICKNESS => (100, thickest(wall)),
+                    _ => (low, high),
                 };
-                wall[index] == if above { high + 1 } else { low.wrapping_sub(1) }
+                let has_downstand = wall[field::DOWNSTAND_DEPTH] > 0;
+                let value = if above { high + 1 } else { low.wrapping_sub(1) };
+                has_downstand == BESIDE_DOWNSTAND.contains(&index) && wall[index] == value
             };
             let wall = walls.iter().position(beyond).unwrap() + 1;
             let refusal = format!("refused 5 {wall}{:02}\n", index + 1);
@@ -156,11 +174,11 @@ fn cages_that_failed_in_whole_mm2_pass_now() {
     };
     let (wall, worked) = named("steel-hundredth-0003.job", "stem-steel-failed-in-mm2");
     let stem = now_and_before(&wall, wall.stem_thickness, &wall.stem_bars, &worked.stem);
-    assert_eq!(stem, [219_118, 219_138, 2192, 2191]);
+    assert_eq!(stem, [687_352, 687_384, 6874, 6873]);
     let (wall, worked) = named("steel-hundredth-0009.job", "toe-steel-failed-in-mm2");
     let toe = worked.toe.unwrap();
     let toe = now_and_before(&wall, wall.base_thickness, &wall.toe_bars, &toe);
-    assert_eq!(toe, [57_102, 57_116, 572, 571]);
+    assert_eq!(toe, [60_801, 60_875, 609, 608]);
 }
 
 /// Every refusal, every block in service and factored, every bit set and

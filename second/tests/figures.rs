@@ -4,7 +4,7 @@ mod common;
 
 use common::{accepted_jobs, case_a, case_a_bytes, case_a_draft, CASE_A_LINE};
 use second::bearing::{block, Bearing, Case, Contact, Fraction};
-use second::forces::{passive_depth, passive_force, pushes};
+use second::forces::{passive_depth, passive_force, pushes, Back};
 use second::job_file::{field, Reinforcement};
 use second::rounding::{down, up};
 use second::section::{
@@ -88,7 +88,7 @@ fn p9_greatest_moment_without_compression_steel() {
 #[test]
 fn p10_moist_push_of_case_a() {
     let wall = case_a();
-    let moist = pushes(&wall, wall.ka, wall.height(), wall.water_height)[1];
+    let moist = pushes(&wall, wall.ka, Back::of_wall(&wall))[1];
     assert_eq!(moist.horizontal, 32_638);
 }
 

@@ -9,7 +9,7 @@ use second::generator::draft::ends;
 use second::generator::{sample, samples, Due, KINDS};
 use second::heel::Reach;
 use second::job_file::{
-    field_in_range, read_record, Header, RawWall, HEADER_BYTES, WALL_BYTES, WALL_FIELDS,
+    field, field_in_range, read_record, Header, RawWall, HEADER_BYTES, WALL_BYTES, WALL_FIELDS,
 };
 use second::section::{greatest_moment, Effects};
 use second::sheet_line::{work_job, work_wall};
@@ -37,7 +37,7 @@ fn the_bytes_of_a_seed_stay_what_they_were() {
             sum = (sum ^ u64::from(byte)).wrapping_mul(0x0100_0000_01b3);
         }
     }
-    assert_eq!(sum, 0x61da_5123_b7bf_8c24);
+    assert_eq!(sum, 0x5899_0eae_4899_aac5);
 }
 
 #[test]
@@ -82,6 +82,30 @@ fn every_field_is_met_at_both_its_ends() {
         }
     }
     assert_eq!(met, [(true, true); WALL_FIELDS]);
+}
+
+/// A downstand at its least depth and its greatest, at the front edge of the base and at
+/// the end of it, and with its least thickness and its greatest.
+#[test]
+fn a_downstand_is_met_at_both_ends_of_each_field() {
+    let mut met = [(false, false); 3];
+    for index in 2 * field::DOWNSTAND_DEPTH..2 * WALL_FIELDS {
+        let bytes = sample(SEED, kind("field-ends"), index).bytes;
+        let wall: RawWall = read_record(&bytes, HEADER_BYTES);
+        let [depth, position, thickness] = [
+            wall[field::DOWNSTAND_DEPTH],
+            wall[field::DOWNSTAND_POSITION],
+            wall[field::DOWNSTAND_THICKNESS],
+        ];
+        let length = wall[field::TOE] + wall[field::STEM_THICKNESS] + wall[field::HEEL];
+        met[0].0 |= depth == 0;
+        met[0].1 |= depth == 1000;
+        met[1].0 |= depth > 0 && position == 0;
+        met[1].1 |= depth > 0 && position + thickness == length;
+        met[2].0 |= thickness == 100;
+        met[2].1 |= thickness == (length - position).min(1500) && depth > 0;
+    }
+    assert_eq!(met, [(true, true); 3]);
 }
 
 /// Of every field a value below and one above, in each of three walls, and no
@@ -379,6 +403,175 @@ fn every_block_is_under_every_part_of_the_heel() {
             assert_eq!((past.r, past.m6), (before.r, before.m6 + 12));
         }
     }
+}
+
+/// The words of each turn of `downstand`, and those that it must not have.
+const DOWNSTAND_TURNS: [(&[&str], &[&str]); 25] = [
+    (
+        &["downstand-under-toe", "factored-whole"],
+        &["toe-shear-0", "toe-moment-0"],
+    ),
+    (&["downstand-under-stem", "factored-whole"], &[]),
+    (&["downstand-under-heel", "factored-whole"], BELOW_0),
+    (&["downstand-across-face", "toe-steel-needed"], &[]),
+    (&["downstand-across-back", "heel-checked"], &[]),
+    (&["downstand-at-front-edge"], &[]),
+    (&["downstand-at-back-edge"], &[]),
+    (&["downstand-at-front-edge", "downstand-at-back-edge"], &[]),
+    (&["downstand-weight-half"], &[]),
+    (&WATERS, &[]),
+    (
+        &["lever-surcharge-negative"],
+        &["lever-moist-above-negative"],
+    ),
+    (
+        &["lever-moist-above-negative"],
+        &["lever-surcharge-negative"],
+    ),
+    (
+        &["lever-moist-below-negative"],
+        &["lever-surcharge-negative"],
+    ),
+    (&["lever-wet-negative"], &["lever-moist-below-negative"]),
+    (&["service-mot-negative", "service-whole"], &[]),
+    (&["factored-mot-negative"], &["service-mot-negative"]),
+    (&["service-mot-negative", "service-heel"], &[]),
+    (
+        &["service-none-past-heel", "bit-8-set", "bit-16-clear"],
+        &[],
+    ),
+    (
+        &["factored-none-past-heel", "bit-8-clear", "bit-16-set"],
+        &[],
+    ),
+    (&["service-none-past-heel", "factored-none-past-heel"], &[]),
+    (&SERVICE_AROUND_SIX_RL, &["bit-8-clear"]),
+    (&FACTORED_AROUND_SIX_RL, &["bit-16-clear"]),
+    (&["passive-depth-by-downstand", "prop-pushes"], &[]),
+    (&["downstand-across-at-crest"], &[]),
+    (&["downstand-across-low-on-stem"], &[]),
+];
+
+const WATERS: [&str; 8] = [
+    "water-at-0",
+    "water-in-downstand",
+    "water-at-base-underside",
+    "water-in-base",
+    "water-wets-base-but-for-downstand",
+    "water-at-base-top",
+    "water-above-base-top",
+    "water-at-crest",
+];
+const SERVICE_AROUND_SIX_RL: [&str; 3] = [
+    "service-m6-just-below-6rl",
+    "service-m6-is-6rl",
+    "service-m6-just-past-6rl",
+];
+const FACTORED_AROUND_SIX_RL: [&str; 3] = [
+    "factored-m6-just-below-6rl",
+    "factored-m6-is-6rl",
+    "factored-m6-just-past-6rl",
+];
+
+/// Where M6 is about 6Rl, three walls are alike and a step of M6 apart; with water at
+/// every height, all are alike but for that.
+#[test]
+fn a_downstand_is_met_in_every_way() {
+    for index in 0..3 * DOWNSTAND_TURNS.len() {
+        let turn = index % DOWNSTAND_TURNS.len();
+        let (wanted, unwanted) = DOWNSTAND_TURNS[turn];
+        let bytes = sample(SEED, kind("downstand"), index).bytes;
+        let words = of(&bytes).1;
+        let met = wanted.iter().all(|word| words.contains(word));
+        let clear = unwanted.iter().all(|word| !words.contains(word));
+        assert!(met && clear, "downstand of index {index}: {words:?}");
+        let job = accept(&bytes).unwrap();
+        assert!(job.walls.iter().all(|wall| wall.downstand.depth > 0));
+        let worked = work_job(&job);
+        let m6: Vec<_> = worked
+            .iter()
+            .map(|w| (w.service.m6, w.factored.m6))
+            .collect();
+        match turn {
+            9 => assert_eq!(job.walls.len(), 12),
+            20 => assert_eq!((m6[1].0 - m6[0].0, m6[2].0 - m6[1].0), (6, 6)),
+            21 => assert_eq!((m6[1].1 - m6[0].1, m6[2].1 - m6[1].1), (12, 12)),
+            _ => assert_eq!(job.walls.len(), 1),
+        }
+    }
+}
+
+/// What is answered to each turn of `refused-downstand`: nothing, a field that is named, or
+/// a refusal of another number.
+const REFUSED_TURNS: [(u8, u64); 24] = [
+    (5, 36),
+    (5, 9),
+    (5, 36),
+    (5, 36),
+    (5, 9),
+    (5, 37),
+    (5, 38),
+    (5, 37),
+    (5, 38),
+    (5, 38),
+    (0, 0),
+    (6, 1),
+    (6, 1),
+    (2, 0),
+    (0, 0),
+    (0, 0),
+    (5, 38),
+    (5, 38),
+    (5, 37),
+    (5, 37),
+    (5, 36),
+    (5, 36),
+    (2, 0),
+    (4, 0),
+];
+
+#[test]
+fn a_downstand_is_refused_in_every_way() {
+    let mut walls = BTreeSet::new();
+    for index in 0..4 * REFUSED_TURNS.len() {
+        let sample = sample(SEED, kind("refused-downstand"), index);
+        let (number, place) = REFUSED_TURNS[index % REFUSED_TURNS.len()];
+        let answer = accept(&sample.bytes).map_or_else(|r| (r.number, r.place), |_| (0, 0));
+        let due = match answer.0 {
+            0 => Due::Accepted,
+            _ => Due::Refused(answer.0, answer.1),
+        };
+        assert_eq!(sample.due, due, "refused-downstand of index {index}");
+        let named = if number == 5 {
+            answer.1 % 100
+        } else {
+            answer.1
+        };
+        assert_eq!((answer.0, named), (number, place), "index {index}");
+        if number == 5 {
+            walls.insert(answer.1 / 100);
+        }
+    }
+    assert_eq!(walls, BTreeSet::from([1, 2]));
+}
+
+/// One wall in three or so has a downstand, and many have none, in the kinds that aren't
+/// made for it.
+#[test]
+fn many_walls_of_the_other_kinds_have_a_downstand() {
+    let (mut with, mut without) = (0, 0);
+    for (name, job) in common::accepted_jobs(30) {
+        if name.starts_with("downstand") || name.starts_with("refused-downstand") {
+            continue;
+        }
+        for wall in job.walls {
+            match wall.downstand.depth {
+                0 => without += 1,
+                _ => with += 1,
+            }
+        }
+    }
+    assert!(4 * with > without && without > with, "{with} and {without}");
 }
 
 /// Where a heel triangle starts at the back face or past it, all of it stands under the

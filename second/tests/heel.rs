@@ -299,6 +299,7 @@ fn the_heaviest_walls_have_their_lines() {
         let wall: RawWall = [
             0, 8000, 1500, 5000, 5000, 1500, 0, 0, 0, 3000, 3000, 3000, 3000, 3000, k, k, 15_000,
             1000, 1000, 10_000, 60, 500, 100, 20, 40, 50, 20, 40, 50, 5000, 5000, 20, 40, 50, 5000,
+            0, 0, 0,
         ];
         let mut draft = Draft::of(wall);
         draft.loads = vec![[1, DOWN, position, 200_000, 200_000]; 8];

@@ -6,7 +6,7 @@ mod common;
 
 use common::CASE_A;
 use second::generator::draft::{Draft, ACROSS, DOWN};
-use second::job_file::{field, RawLoad, RawWall};
+use second::job_file::{field, RawLoad, RawWall, MOST_BYTES, WALL_FIELDS};
 use second::sheet;
 use second::sheet_line::{CHECKS, LINE_NUMBERS};
 use std::path::{Path, PathBuf};
@@ -66,9 +66,9 @@ fn numbered(count: usize) -> Vec<String> {
     (1..=count).map(|number| number.to_string()).collect()
 }
 
-/// The ranges of the 35 fields.
+/// The ranges of the 38 fields.
 fn field_ranges(page: &str) -> Result<Vec<String>, String> {
-    column(page, FIELDS, &numbered(35), 3)
+    column(page, FIELDS, &numbered(WALL_FIELDS), 3)
 }
 
 /// The ranges of a load's five numbers.
@@ -178,17 +178,22 @@ fn due(taken: bool, number: u32, place: usize) -> Result<(), String> {
     }
 }
 
-/// Three walls, each of other heights and another length: h 3300, 700 and 9500, l
-/// 2300, 2301 and 2302.
+/// Three walls, each of other heights and another length: hs + tb 3300, 700 and 9500, with
+/// a downstand in the last two h 701 and 10500; l 2300, 2301 and 2302.
 fn three_walls() -> [RawWall; 3] {
     let mut walls = [CASE_A; 3];
-    let heights = [(3000, 300), (500, 200), (8000, 1500)];
-    for (more, (wall, (stem, base))) in (0..).zip(walls.iter_mut().zip(heights)) {
+    let heights = [(3000, 300, 0), (500, 200, 1), (8000, 1500, 1000)];
+    for (more, (wall, (stem, base, depth))) in (0..).zip(walls.iter_mut().zip(heights)) {
         wall[field::STEM_HEIGHT] = stem;
         wall[field::BASE_THICKNESS] = base;
         wall[field::HEEL] += more;
+        put_downstand(wall, depth, 0, if depth > 0 { 100 } else { 0 });
     }
     walls
+}
+
+fn put_downstand(wall: &mut RawWall, depth: u32, position: u32, thickness: u32) {
+    wall[field::DOWNSTAND_DEPTH..].copy_from_slice(&[depth, position, thickness]);
 }
 
 #[test]
@@ -216,8 +221,8 @@ fn a_missing_row_is_found() {
             rows += 1;
         }
     }
-    // The small job is 172 bytes: six numbers of two, and 40 of four.
-    assert_eq!(rows, 4 * 2 + 35 + 5 + 6 + 46);
+    // The small job is 184 bytes: six numbers of two, and 43 of four.
+    assert_eq!(rows, 4 * 2 + 38 + 5 + 6 + 49);
 }
 
 #[test]
@@ -225,8 +230,8 @@ fn each_field_has_the_range_that_is_answered() {
     let ranges = field_ranges(&page()).unwrap();
     let own = |range: &String| range.starts_with("0 to the wall's own height");
     assert!(ranges.iter().position(own) == Some(8) && ranges.iter().rposition(own) == Some(8));
-    for (index, range) in ranges.iter().enumerate() {
-        for (wall, height) in [3300, 700, 9500].into_iter().enumerate() {
+    for (index, range) in ranges[..field::DOWNSTAND_DEPTH].iter().enumerate() {
+        for (wall, height) in [3300, 701, 10_500].into_iter().enumerate() {
             for (value, taken) in judged(range, height) {
                 let mut walls = three_walls();
                 walls[wall][index] = value;
@@ -238,6 +243,62 @@ fn each_field_has_the_range_that_is_answered() {
     }
 }
 
+/// The answer to three walls, one of them with this downstand.
+fn with_downstand(wall: usize, [depth, position, thickness]: [u32; 3]) -> Result<(), String> {
+    let mut walls = three_walls();
+    put_downstand(&mut walls[wall], depth, position, thickness);
+    answer(&job(&walls, &[]).bytes())
+}
+
+#[test]
+fn a_downstand_has_the_ranges_that_are_answered() {
+    let ranges = field_ranges(&page()).unwrap();
+    let [depth, position, thickness] = &ranges[field::DOWNSTAND_DEPTH..] else {
+        panic!("{ranges:?}");
+    };
+    let nought = "; 0 where field 36 is 0";
+    assert_eq!(position, &format!("0 to the base's length{nought}"));
+    let (within, with_position) = thickness.split_once(", and ").unwrap();
+    let due_words = format!("with field 37 no more than the base's length{nought}");
+    assert_eq!(with_position, due_words);
+    for (wall, length) in [2300, 2301, 2302].into_iter().enumerate() {
+        let named = |field: usize| Err(format!("refused 5 {}\n", 100 * (wall + 1) + field));
+        let with = |downstand| with_downstand(wall, downstand);
+        for (value, taken) in judged(depth, 0) {
+            let thickness = if value > 0 { 100 } else { 0 };
+            let due = if taken { Ok(()) } else { named(36) };
+            assert_eq!(with([value, 0, thickness]), due, "{depth}: {value}");
+        }
+        for (value, taken) in judged(within, 0) {
+            let due = if taken { Ok(()) } else { named(38) };
+            assert_eq!(with([500, 0, value]), due, "{within}: {value}");
+        }
+        assert_eq!(with([500, length - 100, 100]), Ok(()));
+        assert_eq!(with([500, length - 99, 100]), named(38));
+        assert_eq!(with([500, length, 100]), named(38));
+        assert_eq!(with([500, length + 1, 100]), named(37));
+        assert_eq!(with([500, length - 700, 700]), Ok(()));
+        assert_eq!(with([500, length - 700, 701]), named(38));
+        assert_eq!(with([0, 0, 0]), Ok(()));
+        assert_eq!(with([0, 1, 0]), named(37));
+        assert_eq!(with([0, 0, 100]), named(38));
+    }
+}
+
+/// The page's example of water beside a depth that is too great.
+#[test]
+fn water_goes_by_the_depth_that_stands_in_the_file() {
+    assert!(page().contains("with a depth of 2000, which is too much"));
+    let with = |water| {
+        let mut walls = three_walls();
+        put_downstand(&mut walls[0], 2000, 0, 100);
+        walls[0][field::WATER_HEIGHT] = water;
+        answer(&job(&walls, &[]).bytes())
+    };
+    assert_eq!(with(5300), Err("refused 5 136\n".into()));
+    assert_eq!(with(5301), Err("refused 5 109\n".into()));
+}
+
 /// The answer to a load as the second of two.
 fn with_load(load: RawLoad) -> Result<(), String> {
     answer(&job(&three_walls(), &[[1, DOWN, 0, 0, 0], load]).bytes())
@@ -247,7 +308,7 @@ fn with_load(load: RawLoad) -> Result<(), String> {
 fn each_number_of_a_load_has_the_range_that_is_answered() {
     let ranges = load_ranges(&page()).unwrap();
     assert_eq!(ranges[0], "1 to the number of walls");
-    let furthest = "0 to the base's length, or to the wall's own height";
+    let furthest = "0 to the base's length, or to field 2 + field 6";
     assert_eq!(ranges[2], furthest);
     for (index, range) in [
         (0, "1 to 3"),
@@ -291,8 +352,8 @@ fn with_counts(walls: usize, loads: usize, change: Option<(usize, u32)>) -> Resu
 #[test]
 fn the_header_has_the_ranges_that_are_answered() {
     let ranges = header_ranges(&page()).unwrap();
-    assert_eq!([&ranges[0], &ranges[2]], ["1", "12"]);
-    for (place, right, number) in [(0, 1, 2), (2, 12, 4)] {
+    assert_eq!([&ranges[0], &ranges[2]], ["2", "12"]);
+    for (place, right, number) in [(0, 2, 2), (2, 12, 4)] {
         for value in [right - 1, right, right + 1, 65_535] {
             let due = due(value == right, number, 0);
             assert_eq!(with_counts(2, 3, Some((place, value))), due, "{value}");
@@ -312,7 +373,7 @@ fn the_header_has_the_ranges_that_are_answered() {
     }
 }
 
-/// "12 + 140 x walls" and "12 + 140 x walls + 20 x loads", in numbers.
+/// "12 + 152 x walls" and "12 + 152 x walls + 20 x loads", in numbers.
 fn sum(range: &str, walls: u32, loads: u32) -> u32 {
     let part = |part: &str| match part.split_once(" x ") {
         None => part.parse().unwrap(),
@@ -326,9 +387,14 @@ fn sum(range: &str, walls: u32, loads: u32) -> u32 {
 #[test]
 fn offset_and_length_go_by_the_pages_sums() {
     let ranges = header_ranges(&page()).unwrap();
-    let sums = ["12 + 140 x walls", "12 + 140 x walls + 20 x loads"];
+    let sums = ["12 + 152 x walls", "12 + 152 x walls + 20 x loads"];
     assert_eq!(ranges[4..], sums);
     for (walls, loads) in [(1, 0), (1, 1), (2, 0), (3, 8), (64, 512)] {
+        if (walls, loads) == (64, 512) {
+            let longest = sum(&ranges[5], walls, loads);
+            assert_eq!(longest as usize, MOST_BYTES);
+            assert!(page().contains(&format!("loads, has {longest} bytes")));
+        }
         for (place, number) in [(4, 4), (5, 10)] {
             let right = sum(&ranges[place], walls, loads);
             for value in [right - 1, right, right + 1] {
@@ -363,9 +429,11 @@ fn the_page_shows_the_line_and_its_failures() {
 #[test]
 fn the_pages_refusal_is_answered() {
     assert!(page().contains("refused 5 309"));
+    // Behind two walls and eight fields.
+    assert!(page().contains(&format!("-j{} -N4", 12 + 2 * 4 * WALL_FIELDS + 4 * 8)));
     for mut walls in [[CASE_A; 3], three_walls()] {
         let wall = &mut walls[2];
-        wall[8] = wall[1] + wall[5] + 1;
+        wall[8] = wall[1] + wall[5] + wall[35] + 1;
         let refusal = "refused 5 309\n".to_string();
         assert_eq!(answer(&job(&walls, &[]).bytes()), Err(refusal));
         walls[2][8] -= 1;

@@ -135,15 +135,15 @@ fn a_written_file_says_how_many_bytes_it_has() {
         let answer = Second.write(walls, loads, &mut out);
         (answer, out)
     };
-    let (answer, out) = write(&CASE_A, &[], 156);
-    assert_eq!(answer, Packed(152 << 48));
-    assert_eq!((answer.bytes(), answer.number()), (152, 0));
-    assert_eq!(out[..152], case_a_bytes());
-    assert_eq!(out[152..], [0xff; 4]);
+    let (answer, out) = write(&CASE_A, &[], 168);
+    assert_eq!(answer, Packed(164 << 48));
+    assert_eq!((answer.bytes(), answer.number()), (164, 0));
+    assert_eq!(out[..164], case_a_bytes());
+    assert_eq!(out[164..], [0xff; 4]);
     let refusals = [
-        (&CASE_A[..34], &[][..], 3 << 32),
-        (&[0; 35], &[4], 3 << 32),
-        (&[0; 35], &[0; 5], 5 << 32 | 102),
+        (&CASE_A[..37], &[][..], 3 << 32),
+        (&[0; 38], &[4], 3 << 32),
+        (&[0; 38], &[0; 5], 5 << 32 | 102),
         (&CASE_A, &[0; 5], 6 << 32 | 1),
         (&CASE_A, &[1, 0, 0, 0, 0].repeat(9), 7 << 32 | 9),
     ];
@@ -155,7 +155,7 @@ fn a_written_file_says_how_many_bytes_it_has() {
             );
         }
     }
-    assert_eq!(write(&CASE_A, &[], 151), (Packed(9 << 32), vec![0xff; 151]));
+    assert_eq!(write(&CASE_A, &[], 163), (Packed(9 << 32), vec![0xff; 163]));
 }
 
 #[test]
@@ -167,20 +167,22 @@ fn records_are_taken_apart_into_two_buffers() {
         let answer = Second.records(job, &mut walls, &mut loads);
         (answer, walls, loads)
     };
-    let (answer, walls, loads) = apart(&draft.bytes(), 36, 6);
+    let (answer, walls, loads) = apart(&draft.bytes(), 39, 6);
     assert_eq!(answer, Packed::WORKED);
-    assert_eq!((&walls[..35], walls[35]), (&CASE_A[..], u32::MAX));
+    assert_eq!((&walls[..38], walls[38]), (&CASE_A[..], u32::MAX));
     assert_eq!(loads, [1, 0, 2300, 1, 2, u32::MAX]);
-    for (walls, loads) in [(34, 5), (35, 4), (0, 0)] {
+    for (walls, loads) in [(37, 5), (38, 4), (0, 0)] {
         let untouched = (vec![u32::MAX; walls], vec![u32::MAX; loads]);
         let (answer, walls, loads) = apart(&draft.bytes(), walls, loads);
         assert_eq!((answer, (walls, loads)), (Packed(8 << 32), untouched));
     }
     draft.loads[0][2] = 2301;
     assert_eq!(apart(&draft.bytes(), 0, 0).0, Packed(6 << 32 | 1));
+    draft.walls[0][37] = 100;
+    assert_eq!(apart(&draft.bytes(), 0, 0).0, Packed(5 << 32 | 138));
     draft.walls[0][34] = 0;
     assert_eq!(apart(&draft.bytes(), 0, 0).0, Packed(5 << 32 | 135));
     draft.walls[0][30] = 0;
     assert_eq!(apart(&draft.bytes(), 0, 0).0, Packed(5 << 32 | 131));
-    assert_eq!(apart(&draft.bytes()[..171], 0, 0).0, Packed(10 << 32));
+    assert_eq!(apart(&draft.bytes()[..183], 0, 0).0, Packed(10 << 32));
 }

@@ -63,7 +63,7 @@ fn an_input_past_all_bounds_is_refused() {
     long.resize(3_000_000, 1);
     assert_eq!(run(&[], &long).0, "refused 10 0\n");
     // Right when its length is cut to 16 bits.
-    long.resize(65_536 + 152, 1);
+    long.resize(65_536 + 164, 1);
     assert_eq!(run(&[], &long).0, "refused 10 0\n");
 }
 

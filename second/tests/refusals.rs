@@ -8,7 +8,7 @@ use second::answers::{accept, accept_wall, Refusal};
 use second::drawing::draw;
 use second::generator::draft::{Draft, ACROSS, DOWN};
 use second::generator::Due;
-use second::job_file::{field, RawLoad, RawWall};
+use second::job_file::{field, RawLoad, RawWall, WALL_FIELDS};
 
 fn answer(bytes: &[u8]) -> Option<(u8, u64)> {
     accept(bytes).err().map(|r| (r.number, r.place))
@@ -48,14 +48,16 @@ fn with_header(changes: &[(usize, u16)]) -> Option<(u8, u64)> {
 fn two_before_three_before_four() {
     let with = with_header;
     assert_eq!(with(&[]), None);
-    assert_eq!(with(&[(0, 2)]), Some((2, 0)));
-    assert_eq!(with(&[(0, 0), (1, 0), (5, 0)]), Some((2, 0)));
+    for edition in [0, 1, 3, 258, 512, 514, 65_535] {
+        assert_eq!(with(&[(0, edition)]), Some((2, 0)));
+    }
+    assert_eq!(with(&[(0, 1), (1, 0), (5, 0)]), Some((2, 0)));
     for (place, value) in [(1, 0), (1, 65), (3, 513)] {
         assert_eq!(with(&[(place, value)]), Some((3, 0)));
         assert_eq!(with(&[(place, value), (2, 13)]), Some((3, 0)));
     }
-    // The header of three walls is 1 3 12 0 432 432.
-    for (place, due) in [(2, 12), (4, 432)] {
+    // The header of three walls is 2 3 12 0 468 468.
+    for (place, due) in [(2, 12), (4, 468)] {
         for wrong in [due + 1, due - 1, 0, 65_535] {
             assert_eq!(with(&[(place, wrong)]), Some((4, 0)));
         }
@@ -68,17 +70,17 @@ fn two_before_three_before_four() {
 #[test]
 fn four_before_ten() {
     let with = with_header;
-    for wrong in [433, 431, 0, 12, 65_535] {
+    for wrong in [469, 467, 0, 12, 65_535] {
         assert_eq!(with(&[(5, wrong)]), Some((10, 0)));
-        for (place, offset) in [(2, 13), (2, 0), (4, 431), (4, 452)] {
+        for (place, offset) in [(2, 13), (2, 0), (4, 467), (4, 488)] {
             assert_eq!(with(&[(5, wrong), (place, offset)]), Some((4, 0)));
         }
     }
     // A load more: both offsets are right, and the length is not.
     assert_eq!(with(&[(3, 1)]), Some((10, 0)));
-    assert_eq!(with(&[(3, 1), (5, 452)]), Some((10, 0)));
+    assert_eq!(with(&[(3, 1), (5, 488)]), Some((10, 0)));
     assert_eq!(with(&[(3, 513), (5, 0)]), Some((3, 0)));
-    assert_eq!(with(&[(0, 2), (5, 0)]), Some((2, 0)));
+    assert_eq!(with(&[(0, 1), (5, 0)]), Some((2, 0)));
 }
 
 /// The stated length is to be the one that the counts give and the input's.
@@ -92,22 +94,22 @@ fn ten_for_the_input_itself() {
         bytes.resize(input, 0);
         answer(&bytes)
     };
-    assert_eq!(lengths(452, 452, 432), None);
+    assert_eq!(lengths(488, 488, 468), None);
     let wrong = [
-        (452, 451),
-        (452, 453),
-        (452, 12),
-        (452, 452 + 65_536),
-        (451, 451),
-        (472, 472),
+        (488, 487),
+        (488, 489),
+        (488, 12),
+        (488, 488 + 65_536),
+        (487, 487),
+        (508, 508),
         (12, 12),
         (65_535, 65_535),
-        (451, 452),
-        (453, 451),
+        (487, 488),
+        (489, 487),
     ];
     for (stated, input) in wrong {
-        assert_eq!(lengths(stated, input, 432), Some((10, 0)));
-        assert_eq!(lengths(stated, input, 433), Some((4, 0)));
+        assert_eq!(lengths(stated, input, 468), Some((10, 0)));
+        assert_eq!(lengths(stated, input, 469), Some((4, 0)));
     }
 }
 
@@ -164,7 +166,9 @@ fn five_each_field_at_and_past_its_ends() {
             let with = |value| with_fields(wall, &[(place, value)]);
             let refused = Some((5, hundreds + place as u64 + 1));
             assert_eq!(with(low), IN_RANGE, "{refused:?}");
-            assert_eq!(with(high), IN_RANGE, "{refused:?}");
+            if place != field::DOWNSTAND_DEPTH {
+                assert_eq!(with(high), IN_RANGE, "{refused:?}");
+            }
             assert_eq!(with(high + 1), refused);
             assert_eq!(with(u32::MAX), refused);
             assert_eq!(with(low.wrapping_sub(1)), refused);
@@ -188,8 +192,14 @@ fn five_for_the_first_bad_field_of_the_first_bad_wall() {
     let mut draft = three(&[]);
     draft.walls[2][field::KA] = 0;
     assert_eq!(answer(&draft.bytes()), Some((5, 315)));
-    draft.walls[2][field::HEEL_SHEAR_STRESS] = 0;
+    draft.walls[2][field::DOWNSTAND_DEPTH] = 1001;
     assert_eq!(answer(&draft.bytes()), Some((5, 315)));
+    draft.walls[1][field::DOWNSTAND_THICKNESS] = 100;
+    assert_eq!(answer(&draft.bytes()), Some((5, 238)));
+    draft.walls[1][field::DOWNSTAND_POSITION] = 1;
+    assert_eq!(answer(&draft.bytes()), Some((5, 237)));
+    draft.walls[1][field::DOWNSTAND_DEPTH] = 1001;
+    assert_eq!(answer(&draft.bytes()), Some((5, 236)));
     draft.walls[1][field::HEEL_SHEAR_STRESS] = 5001;
     assert_eq!(answer(&draft.bytes()), Some((5, 235)));
     draft.walls[1][field::HEEL_COVER] = 19;
@@ -198,17 +208,22 @@ fn five_for_the_first_bad_field_of_the_first_bad_wall() {
     assert_eq!(answer(&draft.bytes()), Some((5, 231)));
     draft.walls[1][field::KIND] = 2;
     assert_eq!(answer(&draft.bytes()), Some((5, 201)));
-    draft.walls[0] = [u32::MAX; 35];
+    draft.walls[0] = [u32::MAX; WALL_FIELDS];
     assert_eq!(answer(&draft.bytes()), Some((5, 101)));
 }
 
-/// Every two fields, whichever of them is spoilt first.
+/// Every two fields, whichever of them is spoilt first; but water goes by the depth of the
+/// downstand as it stands, and with the greatest there is none is too high.
 #[test]
 fn five_for_the_first_of_two_bad_fields() {
     for (first, (_, high)) in ENDS.into_iter().enumerate() {
-        for later in first + 1..35 {
+        for later in first + 1..WALL_FIELDS {
             let (one, other) = ((first, high + 1), (later, u32::MAX));
-            let refused = Some((5, 201 + first as u64));
+            let named = match (first, later) {
+                (field::WATER_HEIGHT, field::DOWNSTAND_DEPTH) => later,
+                _ => first,
+            };
+            let refused = Some((5, 201 + named as u64));
             assert_eq!(with_fields(1, &[one, other]), refused);
             assert_eq!(with_fields(1, &[other, one]), refused);
         }
@@ -251,9 +266,9 @@ fn a_wall_alone_is_refused_as_wall_one() {
         assert_eq!(place(64, &raw), Err(format!("refused 5 64{field:02}")));
     }
     let mut walls = vec![CASE_A; 64];
-    walls[63][field::HEEL_SHEAR_STRESS] = 0;
+    walls[63][field::DOWNSTAND_THICKNESS] = 100;
     let loads = Vec::new();
-    assert_eq!(answer(&Draft { walls, loads }.bytes()), Some((5, 6435)));
+    assert_eq!(answer(&Draft { walls, loads }.bytes()), Some((5, 6438)));
 }
 
 #[test]

@@ -4,15 +4,20 @@ mod common;
 
 use common::case_a_bytes;
 use second::answers::accept;
-use second::sheet_line::work_job;
-use second::{sheet, traits};
+use second::downstand::Underfoot;
+use second::forces::{pushes, weights, Back};
+use second::job_file::{Job, Wall};
+use second::section::Section;
+use second::sheet_line::{work_job, Worked};
+use second::{sheet, traits, Whole};
 use std::path::{Path, PathBuf};
 use std::process::Command;
 
-const FILES: [&str; 5] = [
+const FILES: [&str; 6] = [
     "case-a.job",
     "document-003.job",
     "document-004-lower.job",
+    "downstand.job",
     "every-check.job",
     "full.job",
 ];
@@ -79,6 +84,51 @@ fn every_check_fails_on_one_line_or_the_other() {
     assert_eq!(failures[0] | failures[1], 0x1ff);
 }
 
+/// What the README says of the job line by line: the wall that slides and doesn't when it
+/// is keyed, levers and Mot below 0, and M6 past 6Rl and just there.
+#[test]
+fn the_downstand_job_shows_what_is_said() {
+    let job = accept(&kept("downstand.job")).unwrap();
+    let worked = work_job(&job);
+    let failures: Vec<u16> = worked.iter().map(|wall| wall.failures).collect();
+    assert_eq!(failures, [1, 0, 0, 0, 0, 0, 0x18, 0x18]);
+    let held = |wall: &Worked| [wall.passive, wall.friction, wall.service.h];
+    assert_eq!(held(&worked[0]), [9720, 29_790, 43_627]);
+    for (wall, worked) in job.walls[1..4].iter().zip(&worked[1..4]) {
+        assert_eq!(held(worked), [32_670, 30_690, 55_931]);
+        assert_eq!(weights(wall)[2].vertical, 3600);
+    }
+    assert!(worked[1].service.mrest < worked[2].service.mrest);
+    assert!(worked[2].service.mrest < worked[3].service.mrest);
+    let places: Vec<_> = job.walls.iter().map(Underfoot::of).collect();
+    assert!(places[1].under_toe() && places[2].under_stem() && places[3].under_heel());
+    // Sixths of a mm.
+    let levers = |wall: &Wall| {
+        let each = pushes(wall, wall.ka, Back::of_wall(wall));
+        each.map(|push| push.moment / push.horizontal.max(1))
+    };
+    assert_eq!(levers(&job.walls[4])[2..], [-1200, -1800, -1800]);
+    assert!(worked[4].service.m6 > worked[3].service.m6);
+    assert_eq!(levers(&job.walls[5])[..2], [-300, -2000]);
+    assert_eq!(worked[5].service.mot, 6 * -2_958_133 - 2);
+    assert_eq!(six_rl(&job, &worked, 6), (9_792_000, 38_709_000));
+    assert_eq!(six_rl(&job, &worked, 7), (9_792_000, 9_792_000));
+    for worked in &worked[1..5] {
+        assert_eq!(worked.stem, worked_stem_of_case_a());
+    }
+}
+
+/// 6Rl and M6 of a line, counted from 0.
+fn six_rl(job: &Job, worked: &[Worked], line: usize) -> (Whole, Whole) {
+    let total = &worked[line].service;
+    (6 * total.r * job.walls[line].base_length(), total.m6)
+}
+
+fn worked_stem_of_case_a() -> Section {
+    let job = accept(&kept("case-a.job")).unwrap();
+    work_job(&job).remove(0).stem
+}
+
 #[test]
 fn the_full_job_is_full_and_of_many_kinds() {
     let bytes = kept("full.job");
@@ -100,6 +150,11 @@ fn the_full_job_is_full_and_of_many_kinds() {
         "service-toe",
         "service-heel",
         "loads-interleaved",
+        "no-downstand",
+        "downstand-under-toe",
+        "downstand-under-stem",
+        "downstand-under-heel",
+        "water-in-downstand",
     ] {
         assert!(words.contains(&wanted), "{wanted}");
     }
@@ -115,7 +170,7 @@ fn has_lines(page: &str, lines: &str) -> bool {
 #[test]
 fn the_pages_show_what_is_printed() {
     let readme = page("jobs/README.md");
-    for name in &FILES[..4] {
+    for name in &FILES[..5] {
         assert!(has_lines(&readme, &sheet(&kept(name))), "{name}");
     }
     let full = sheet(&kept("full.job"));

@@ -65,7 +65,7 @@ fn no_toe_and_no_stem_that_passed_fails_now() {
     }
     for met in [toes, stems] {
         assert!(met.pass > 1000 && met.fail > 500, "{met:?}");
-        assert!(met.pass_now > 15, "{met:?}");
+        assert!(met.pass_now > 10, "{met:?}");
     }
 }
 

@@ -39,7 +39,7 @@ fn every_row_prints_its_line() {
         assert_eq!(second::sheet(&draft.bytes()), format!("{line}\n"));
         count += 1;
     }
-    assert!(count > 320, "{count}");
+    assert!(count > 400, "{count}");
 }
 
 /// The edges that the rows were chosen for.
@@ -126,6 +126,36 @@ const EDGES: &[&str] = &[
     "heel-sum-not-whole",
     "heel-bearing-not-whole",
     "heel-peak-shows",
+    "downstand-under-toe",
+    "downstand-under-stem",
+    "downstand-under-heel",
+    "downstand-across-face",
+    "downstand-across-back",
+    "downstand-at-front-edge",
+    "downstand-at-back-edge",
+    "downstand-weight-half",
+    "downstand-weight-not-whole",
+    "water-in-downstand",
+    "water-at-base-underside",
+    "water-in-base",
+    "water-wets-base-but-for-downstand",
+    "passive-depth-by-downstand",
+    "downstand-across-at-crest",
+    "downstand-across-low-on-stem",
+    "lever-surcharge-negative",
+    "lever-moist-above-negative",
+    "lever-moist-below-negative",
+    "lever-wet-negative",
+    "service-mot-negative",
+    "factored-mot-negative",
+    "service-none-past-heel",
+    "factored-none-past-heel",
+    "service-m6-just-below-6rl",
+    "service-m6-is-6rl",
+    "service-m6-just-past-6rl",
+    "factored-m6-just-below-6rl",
+    "factored-m6-is-6rl",
+    "factored-m6-just-past-6rl",
 ];
 
 #[test]

@@ -7,7 +7,7 @@ mod common;
 use common::{case_a_bytes, samples_of_each_kind, CASE_A, ENDS};
 use second::answers::{accept, Refusal};
 use second::generator::draft::{Draft, ACROSS, DOWN};
-use second::job_file::{field, Header, RawLoad, MOST_BYTES};
+use second::job_file::{field, Header, RawLoad, MOST_BYTES, WALL_FIELDS};
 use second::writing::{records, rewrite, take_apart, write, Records};
 
 const GOOD: RawLoad = [1, DOWN, 100, 1000, 2000];
@@ -34,7 +34,7 @@ fn written(records: &Records, room: usize) -> (Result<usize, Refusal>, Vec<u8>) 
 
 /// The refusal of some records, whatever the room, and that nothing is written.
 fn refused(records: &Records) -> (u8, u64) {
-    let answers = [0, 11, 12, 151, 152, 492, MOST_BYTES, 20_000].map(|room| {
+    let answers = [0, 11, 12, 163, 164, 528, MOST_BYTES, 20_000].map(|room| {
         let (answer, out) = written(records, room);
         assert!(out.iter().all(|byte| *byte == BYTE), "{room} bytes lent");
         answer.unwrap_err()
@@ -49,10 +49,10 @@ fn case_a_is_written_as_document_01_prints_it() {
         walls: CASE_A.to_vec(),
         loads: Vec::new(),
     };
-    let (answer, out) = written(&records, 152);
-    assert_eq!(answer, Ok(152));
+    let (answer, out) = written(&records, 164);
+    assert_eq!(answer, Ok(164));
     let header = Header::read(&out).unwrap().numbers();
-    assert_eq!(header, [1, 1, 12, 0, 152, 152]);
+    assert_eq!(header, [2, 1, 12, 0, 164, 164]);
     assert_eq!(out, case_a_bytes());
 }
 
@@ -60,34 +60,34 @@ fn case_a_is_written_as_document_01_prints_it() {
 fn offsets_go_by_the_counts_and_loads_keep_their_order() {
     let loads = [[3, ACROSS, 3300, 0, 0x0001_0203], [1, DOWN, 0, 7, 0], GOOD];
     let (answer, out) = written(&three(&loads), 550);
-    assert_eq!(answer, Ok(492));
+    assert_eq!(answer, Ok(528));
     let header = Header::read(&out).unwrap().numbers();
-    assert_eq!(header, [1, 3, 12, 3, 432, 492]);
+    assert_eq!(header, [2, 3, 12, 3, 468, 528]);
     let first_load = [
         3, 0, 0, 0, 1, 0, 0, 0, 0xe4, 0x0c, 0, 0, 0, 0, 0, 0, 3, 2, 1, 0,
     ];
-    assert_eq!(out[432..452], first_load);
+    assert_eq!(out[468..488], first_load);
     let draft = Draft {
         walls: vec![CASE_A; 3],
         loads: loads.to_vec(),
     };
-    assert_eq!(out[..492], draft.bytes());
-    assert!(out[492..].iter().all(|byte| *byte == BYTE));
+    assert_eq!(out[..528], draft.bytes());
+    assert!(out[528..].iter().all(|byte| *byte == BYTE));
 }
 
 #[test]
 fn room_for_exactly_the_file_is_enough() {
     let records = three(&[GOOD]);
     for more in [0, 1, 12, 1000] {
-        let (answer, out) = written(&records, 452 + more);
-        assert_eq!(answer, Ok(452));
-        assert_eq!(out[452..], vec![BYTE; more]);
+        let (answer, out) = written(&records, 488 + more);
+        assert_eq!(answer, Ok(488));
+        assert_eq!(out[488..], vec![BYTE; more]);
     }
     let nine = Refusal {
         number: 9,
         place: 0,
     };
-    for room in [0, 1, 12, 432, 451] {
+    for room in [0, 1, 12, 468, 487] {
         assert_eq!(written(&records, room), (Err(nine), vec![BYTE; room]));
     }
 }
@@ -95,7 +95,7 @@ fn room_for_exactly_the_file_is_enough() {
 #[test]
 fn three_for_buffers_that_are_not_whole_records() {
     let whole = three(&[GOOD, GOOD]);
-    for count in (0..=106).filter(|count| count % 35 != 0) {
+    for count in (0..=115).filter(|count| count % 38 != 0) {
         let mut records = whole.clone();
         records.walls.resize(count, 0);
         assert_eq!(refused(&records), (3, 0), "{count} numbers of walls");
@@ -119,21 +119,21 @@ fn three_for_counts_out_of_range() {
     for (walls, loads) in [(0, 0), (0, 1), (65, 0), (64, 513), (65_537, 0), (1, 65_536)] {
         assert_eq!(refused(&counts(walls, loads)), (3, 0), "{walls}, {loads}");
     }
-    assert_eq!(written(&counts(64, 0), 8972).0, Ok(8972));
-    assert_eq!(written(&counts(64, 512), MOST_BYTES).0, Ok(19_212));
+    assert_eq!(written(&counts(64, 0), 9740).0, Ok(9740));
+    assert_eq!(written(&counts(64, 512), MOST_BYTES).0, Ok(19_980));
 }
 
 #[test]
 fn five_six_and_seven_with_their_places() {
     let mut records = three(&[GOOD, BAD]);
     assert_eq!(refused(&records), (6, 2));
-    records.walls[70 + field::KA] = 0;
+    records.walls[2 * WALL_FIELDS + field::KA] = 0;
     assert_eq!(refused(&records), (5, 315));
-    records.walls[35 + field::WATER_HEIGHT] = 3301;
+    records.walls[WALL_FIELDS + field::WATER_HEIGHT] = 3301;
     assert_eq!(refused(&records), (5, 209));
-    records.walls[35 + field::BASE_THICKNESS] = 1501;
+    records.walls[WALL_FIELDS + field::BASE_THICKNESS] = 1501;
     assert_eq!(refused(&records), (5, 206));
-    records.walls[35 + field::STEM_HEIGHT] = 8001;
+    records.walls[WALL_FIELDS + field::STEM_HEIGHT] = 8001;
     assert_eq!(refused(&records), (5, 202));
     let mut loads = vec![GOOD; 9];
     loads.insert(2, [2, ACROSS, 3300, 0, 200_000]);
@@ -149,8 +149,8 @@ fn five_six_and_seven_with_their_places() {
 /// The writer names the field that the reader names, in each of three walls.
 #[test]
 fn a_bad_field_has_the_readers_place() {
-    for place in 0..105 {
-        let (wall, index) = (place / 35, place % 35);
+    for place in 0..3 * WALL_FIELDS {
+        let (wall, index) = (place / WALL_FIELDS, place % WALL_FIELDS);
         let (low, high) = ENDS[index];
         for value in [low.wrapping_sub(1), high + 1] {
             let mut records = three(&[]);
@@ -188,9 +188,9 @@ fn three_before_five_before_six_before_seven_before_nine() {
     records.loads[0] = 2;
     assert_eq!(refused(&records), (7, 10));
     records.loads.truncate(45);
-    let nine = written(&records, 611).0.unwrap_err();
+    let nine = written(&records, 647).0.unwrap_err();
     assert_eq!((nine.number, nine.place), (9, 0));
-    assert_eq!(written(&records, 612).0, Ok(612));
+    assert_eq!(written(&records, 648).0, Ok(648));
 }
 
 /// Of the numbers behind a right header the writer says what the reader says.
@@ -205,7 +205,7 @@ fn records_are_refused_as_the_reader_would() {
             continue;
         }
         let walls = usize::from(Header::read(bytes).unwrap().walls);
-        let (walls, loads) = bytes[12..].split_at(140 * walls);
+        let (walls, loads) = bytes[12..].split_at(152 * walls);
         let numbers = |bytes: &[u8]| -> Vec<u32> {
             let each = bytes.chunks(4);
             each.map(|b| u32::from_le_bytes(b.try_into().unwrap()))
@@ -255,24 +255,24 @@ fn taken_apart(job: &[u8], walls: usize, loads: usize) -> (Result<(), Refusal>, 
 #[test]
 fn records_stand_at_the_start_and_the_rest_stays() {
     let whole = three(&[GOOD, [2, ACROSS, 0, 5, 6]]);
-    let (_, job) = written(&whole, 472);
-    assert_eq!(taken_apart(&job, 105, 10), (Ok(()), whole.clone()));
-    let (answer, apart) = taken_apart(&job, 112, 17);
+    let (_, job) = written(&whole, 508);
+    assert_eq!(taken_apart(&job, 114, 10), (Ok(()), whole.clone()));
+    let (answer, apart) = taken_apart(&job, 121, 17);
     assert_eq!(answer, Ok(()));
-    assert_eq!(apart.walls[..105], whole.walls);
+    assert_eq!(apart.walls[..114], whole.walls);
     assert_eq!(apart.loads[..10], whole.loads);
-    let behind = [&apart.walls[105..], &apart.loads[10..]].concat();
+    let behind = [&apart.walls[114..], &apart.loads[10..]].concat();
     assert_eq!(behind, [NUMBER; 14]);
     // Without loads no room is needed for them.
-    let apart = taken_apart(&case_a_bytes(), 35, 0).1;
+    let apart = taken_apart(&case_a_bytes(), 38, 0).1;
     assert_eq!(apart.walls, CASE_A);
 }
 
 #[test]
 fn eight_where_either_buffer_is_too_short_after_all_others() {
-    let (_, mut job) = written(&three(&[GOOD, GOOD]), 472);
+    let (_, mut job) = written(&three(&[GOOD, GOOD]), 508);
     let answers = |job: &[u8]| {
-        [(0, 0), (104, 10), (105, 9), (104, 1000), (1000, 9)].map(|(walls, loads)| {
+        [(0, 0), (113, 10), (114, 9), (113, 1000), (1000, 9)].map(|(walls, loads)| {
             let (answer, apart) = taken_apart(job, walls, loads);
             let lent = [apart.walls, apart.loads].concat();
             assert!(lent.iter().all(|number| *number == NUMBER));
@@ -280,11 +280,11 @@ fn eight_where_either_buffer_is_too_short_after_all_others() {
         })
     };
     assert_eq!(answers(&job), [Err((8, 0)); 5]);
-    job[452] = 4;
+    job[488] = 4;
     assert_eq!(answers(&job), [Err((6, 2)); 5]);
-    job[297] = 0;
+    job[321] = 0;
     assert_eq!(answers(&job), [Err((5, 302)); 5]);
-    job[292] = 2;
+    job[316] = 2;
     assert_eq!(answers(&job), [Err((5, 301)); 5]);
     job[10] = 0;
     assert_eq!(answers(&job), [Err((10, 0)); 5]);
@@ -292,7 +292,7 @@ fn eight_where_either_buffer_is_too_short_after_all_others() {
     assert_eq!(answers(&job), [Err((4, 0)); 5]);
     job[2] = 0;
     assert_eq!(answers(&job), [Err((3, 0)); 5]);
-    job[0] = 2;
+    job[0] = 1;
     assert_eq!(answers(&job), [Err((2, 0)); 5]);
     assert_eq!(answers(&job[..11]), [Err((1, 0)); 5]);
 }

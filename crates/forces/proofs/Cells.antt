@@ -1,15 +1,13 @@
 -- Every cell of the tables is small, of a wall that fits with its loads.
-use mathlib.Core.Path.{_≡_, refl}
 use mathlib.Core.List.{List, [], map}
 use Prim.Native.Nat.{ℕ, _≤_}
 use native.Mathlib.Omega.{arith}
 use lib.IntN.{ℤ, pos, natAbs}
 use lib.ListN.{getD, List·getD-map}
 use Rattle.whole.proofs.Lists.{all-joined}
-use Rattle.rules.specs.JobFile.{Wall, Load, stemHeight, baseThickness, restCoefficient, baseLength, greatestLoad}
+use Rattle.rules.specs.JobFile.{Wall, Load, stemHeight, baseThickness, restCoefficient, greatestLoad}
 use Rattle.rules.specs.Forces.{saturatedHeight, Sort, Component, pushRows, loadTable}
-use Rattle.rules.proofs.Moments.{balances}
-use Rattle.rules.proofs.Accepted.{WallWithin, wall-within, base-length}
+use Rattle.rules.proofs.Accepted.{WallWithin, wall-within}
 use Rattle.rules.proofs.Examined.{Fit}
 use Rattle.rules.proofs.Sizes.{greatestCell, Sound, weight, pushes-sound, stem-face, none, loads-sound, row-at, cell-at}
 use Rattle.forces.specs.Faces.{rowsOf}

@@ -9,9 +9,9 @@ use borrow.Author.Tests.{not-true, not-false}
 use lib.Dec.{T, ltb, eqb}
 use lib.ListN.{length}
 use Rattle.rules.specs.declared.Answer.{Answer}
-use Rattle.rules.specs.declared.Answer.the-variants.{Worked, TooShort, WrongEdition, CountOutOfRange, WrongOffset, WrongLength}
+use Rattle.rules.specs.declared.Answer.the-variants.{Worked, TooShort, WrongEdition, CountOutOfRange}
 use Rattle.rules.specs.JobFile.{File, Wall, Load, Entry, baseLength, crestHeight, reach, loadFits, headerBytes, thisEdition, edition, wallCount, mostWalls, recordsFrom, walls, entries, wallOf, loadsOn}
-use Rattle.rules.specs.Answered.{isWorked, refusedIf, _orElse_, countsFit, offsetsFit, lengthFits, wallAnswer, firstBadWall, entryFits, isOneMore, firstBadLoad, firstRefusal}
+use Rattle.rules.specs.Answered.{isWorked, refusedIf, _orElse_, countsFit, wallAnswer, firstBadWall, entryFits, isOneMore, firstBadLoad, firstRefusal}
 use Rattle.rules.proofs.AcceptedFile.{first-worked, passes, walls-counted}
 use Rattle.job.specs.Lengths.{lengthsOf}
 use Rattle.rules.specs.Beyond.{loadAnswer}

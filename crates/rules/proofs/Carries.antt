@@ -12,7 +12,7 @@ use lib.Dec.{T, leb}
 use lib.IntN.{ℤ, pos, negsuc, natAbs, _+ℤ_, _-ℤ_, _*ℤ_, +ℤ-idr, +ℤ-comm, -ℤ-+ℤ-cancel, zero-*ℤ, *ℤ-comm}
 use lib.Signed.{leZ, _≤ℤ_, _<ℤ_, ≤ℤ-refl, <ℤ-≤ℤ-trans, clashℤ, leZ-yes, ltZ-yes}
 use Rattle.whole.specs.Parts.{aboveZero, belowZero}
-use Rattle.whole.proofs.Integer.{itself, diff-sub, diff-mul, diff-eq, eq-diff, diff-le, diff-lt, lt-diff, lt-parts, *ℤ-idr, ≤ℤ-of-<ℤ, ≤ℤ-trans, ≤ℤ-<ℤ-trans, <ℤ-trans, le-leZ, lt-leZ, ltZ-leZ, ≤ℤ-or-<ℤ, pos-≤ℤ, pos-<ℤ, sub-nonneg, sub-above, Whole, whole, is-whole, Above, above, is-above, nonneg-factor}
+use Rattle.whole.proofs.Integer.{itself, diff-sub, diff-mul, diff-eq, eq-diff, diff-le, diff-lt, lt-diff, lt-parts, *ℤ-idr, ≤ℤ-of-<ℤ, ≤ℤ-trans, ≤ℤ-<ℤ-trans, <ℤ-trans, le-leZ, lt-leZ, ltZ-leZ, ≤ℤ-or-<ℤ, pos-≤ℤ, pos-<ℤ, sub-nonneg, Whole, whole, is-whole, Above, above, is-above, nonneg-factor}
 use Rattle.whole.proofs.Lists.{case}
 use Rattle.rules.specs.declared.Fraction.{Fraction}
 use Rattle.rules.specs.declared.Kind.{Kind}

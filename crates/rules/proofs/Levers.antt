@@ -5,7 +5,6 @@ use mathlib.Core.List.{List, [], _∷_, map}
 use Prim.Native.Nat.{ℕ, _+_, _*_}
 use native.Mathlib.Nat.{add-zero}
 use lib.IntN.{ℤ, pos, _-ℤ_, _*ℤ_, *ℤ-comm}
-use Rattle.whole.specs.Sum.{sumOf}
 use Rattle.whole.proofs.Integer.{*ℤ-sub, *ℤ-assoc}
 use Rattle.whole.proofs.Sums.{sumOf-same, sumOf-sub, sumOf-factor, sumOf-map}
 use Rattle.rules.specs.JobFile.{Wall}

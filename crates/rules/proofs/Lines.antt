@@ -5,7 +5,7 @@ use mathlib.Core.List.{List, [], _∷_}
 use Prim.Native.Nat.{ℕ, _+_, _-_, _*_, _≤_}
 use native.Mathlib.Nat.{mul-le-mul, le-trans}
 use native.Mathlib.Omega.{arith}
-use lib.Dec.{T, ltb, le→leb, lit<}
+use lib.Dec.{T, ltb, lit<}
 use lib.IntN.{ℤ, pos, natAbs}
 use lib.ListN.{length, length-append}
 use lib.Signed.{_≤ℤ_, _<ℤ_}
@@ -32,7 +32,7 @@ use Rattle.rules.proofs.Bits.{two-bytes}
 use Rattle.rules.proofs.Pressures.{Pressable, WithinPeak, given-most, factored-pressable, reported-most, scaled-most, line-most}
 use Rattle.rules.proofs.Sections.{toe-workable, stem-workable, heel-workable, required-most}
 use Rattle.rules.proofs.ToeBearing.{before, never-more}
-use Rattle.rules.proofs.Sizes.{weighed, Sound, push, pushes-sound, stem-face, mostRows, Small, each, row-at, column-small, service-sized}
+use Rattle.rules.proofs.Sizes.{weighed, Sound, push, pushes-sound, stem-face, Small, each, row-at, column-small, service-sized}
 
 -- a member's figures are small
 record SmallMember (m : Member) : Type 0 where

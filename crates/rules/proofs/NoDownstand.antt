@@ -6,8 +6,8 @@ use mathlib.Core.List.{List, [], _∷_, _++_, map}
 use Prim.Native.Nat.{ℕ, suc, _+_, _-_, _*_, _≤_, _<_}
 use native.Mathlib.Nat.{mul-pos, mul-le-mul-left, zero-mul, add-zero}
 use native.Mathlib.Omega.{arith}
-use lib.Dec.{T, leb, ltb, eqb, le→leb}
-use lib.IntN.{ℤ, pos, negsuc, natAbs, _+ℤ_, _-ℤ_, _*ℤ_, +ℤ-idl, +ℤ-idr, *ℤ-zero, *ℤ-comm}
+use lib.Dec.{T, leb, ltb, le→leb}
+use lib.IntN.{ℤ, pos, negsuc, natAbs, _-ℤ_, _*ℤ_, +ℤ-idl, *ℤ-zero, *ℤ-comm}
 use lib.ListN.{length, getD, List·getD-map}
 use lib.Signed.{leZ, ltZ, _≤ℤ_, _<ℤ_}
 use Rattle.whole.specs.Parts.{aboveZero}
@@ -27,9 +27,9 @@ use Rattle.rules.specs.declared.Sliding.{Sliding}
 use Rattle.rules.specs.declared.Totals.{Totals}
 use Rattle.rules.specs.declared.WorkedWall.{WorkedWall}
 use Rattle.rules.specs.JobFile.{Wall, Load, stemHeight, stemThickness, toeLength, heelLength, baseThickness, coverInFront, excavation, waterHeight, baseDensity, moistDensity, saturatedDensity, soilDensity, activeCoefficient, restCoefficient, passiveCoefficient, downstandDepth, downstandPosition, downstandThickness, baseLength, crestHeight, wallHeight, bars, among, within, field, firstOutside, firstBadField, isDown, position, deadLoad, liveLoad, reach}
-use Rattle.rules.specs.Forces.{perVolume, thousandths, squared, saturatedHeight, stemWeight, baseWeight, downstandWeight, saturatedWeight, moistWeight, surchargeWeight, surchargePush, moistPush, moistPushBelow, saturatedPush, waterPush, Sort, deadWeight, liveWeight, deadPush, livePush, Component, down, across, overHeel, weightRows, pushRows, loadRow, deadRow, liveRow, loadTable, table, vertical, horizontal, moment, columnSum, once, tenths, rests, totals, service, factored, passiveDepth, passive, lastingWeight, frictionUnder, isPropped, slidingUnder, slidingOf}
+use Rattle.rules.specs.Forces.{perVolume, thousandths, squared, saturatedHeight, stemWeight, baseWeight, downstandWeight, saturatedWeight, moistWeight, surchargeWeight, surchargePush, moistPush, moistPushBelow, saturatedPush, waterPush, Sort, deadWeight, liveWeight, deadPush, livePush, Component, down, overHeel, weightRows, pushRows, loadRow, deadRow, liveRow, loadTable, table, vertical, horizontal, moment, columnSum, once, tenths, rests, totals, service, factored, passiveDepth, passive, lastingWeight, frictionUnder, isPropped, slidingUnder, slidingOf}
 use Rattle.rules.specs.Bearing.{isNone, isFull, isFromToe, isFromHeel, kindOf, ofKind, blockOf, serviceScale, factoredScale, given, blockUnder, serviceBlock, factoredBlock, pressedBy}
-use Rattle.rules.specs.ToeAndStem.{toeUnder, toe, stemLoadTable, stemTable, stemAction, twiceHeelArm, fillOnHeel, shearOnHeel, momentOnHeel, heelBearing, heelWorked, heelAction, heelSection, stemSection, memberUnder, noMember, stem, heelUnder, heel}
+use Rattle.rules.specs.ToeAndStem.{toeUnder, toe, stemLoadRows, stemLoadTable, stemTable, stemAction, twiceHeelArm, fillOnHeel, shearOnHeel, momentOnHeel, heelBearing, heelWorked, heelAction, heelSection, stemSection, memberUnder, noMember, stem, heelUnder, heel}
 use Rattle.rules.specs.SheetLine.{workedWall, numbersBy, line}
 use Rattle.rules.proofs.Accepted.{both, every, WallWithin, wall-within, base-length, load-within}
 use Rattle.rules.proofs.Examined.{AllFit, Fit}
@@ -37,6 +37,17 @@ use Rattle.rules.proofs.Moments.{balances, one-sum}
 use Rattle.rules.proofs.Sizes.{weighed, each, none}
 
 -- ---- the rules before: forces
+
+-- a horizontal force, with six times its height
+abbrev pub acrossBefore : Sort → ℕ → ℕ → Component
+acrossBefore sort force sixfold = record { sort = sort; row = pos 0 ∷ pos force ∷ pos (force * sixfold) ∷ [] }
+
+abbrev pub loadRowBefore : Sort → Sort → (Load → ℕ) → Load → Component
+loadRowBefore weight push part load =
+    cond (isDown load) (down weight (part load) (6 * position load)) (acrossBefore push (part load) (6 * position load))
+
+abbrev pub loadTableBefore : List Load → List Component
+loadTableBefore loads = map (loadRowBefore deadWeight deadPush deadLoad) loads ++ map (loadRowBefore liveWeight livePush liveLoad) loads
 
 module _ (wall : Wall) where
   -- h and hsat
@@ -61,10 +72,6 @@ module _ (wall : Wall) where
       ∷ down liveWeight (surchargeWeight wall) (overHeel wall)
       ∷ []
 
-  -- a horizontal force, with six times its height
-  abbrev pub acrossBefore : Sort → ℕ → ℕ → Component
-  acrossBefore sort force sixfold = record { sort = sort; row = pos 0 ∷ pos force ∷ pos (force * sixfold) ∷ [] }
-
   abbrev pub pushRowsBefore : ℕ → ℕ → ℕ → List Component
   pushRowsBefore K h hw =
       acrossBefore livePush (surchargePush wall K h) (3 * h)
@@ -74,9 +81,8 @@ module _ (wall : Wall) where
       ∷ acrossBefore deadPush (waterPush hw) (2 * hw)
       ∷ []
 
-  -- the rows of loads are what they were
   abbrev pub tableBefore : ℕ → List Load → List Component
-  tableBefore K loads = weightRowsBefore ++ pushRowsBefore K heightBefore (waterHeight wall) ++ loadTable loads
+  tableBefore K loads = weightRowsBefore ++ pushRowsBefore K heightBefore (waterHeight wall) ++ loadTableBefore loads
 
   abbrev pub serviceBefore : List Load → Totals
   serviceBefore loads = totals once (tableBefore (activeCoefficient wall) loads)
@@ -110,6 +116,16 @@ kindBefore R M6 l =
     cond (leZ M6 (pos 0)) NoBlock
     (cond (isFull R M6 l) Full (cond (isFromToe R M6 l) FromToe (cond (ltZ (pos 4 *ℤ R *ℤ l) M6) FromHeel NoBlock)))
 
+-- a horizontal load at or above the base's top
+pub stemLoadsBefore : Wall → List Load → List Component
+stemLoadsBefore wall [] = []
+stemLoadsBefore wall (load ∷ rest) =
+    let sixfold = 6 * (position load - baseThickness wall) in
+    cond (isDown load || ltb (position load) (baseThickness wall))
+    []
+    (acrossBefore deadPush (deadLoad load) sixfold ∷ acrossBefore livePush (liveLoad load) sixfold ∷ [])
+    ++ stemLoadsBefore wall rest
+
 abbrev pub blockBefore : ℕ → Totals → Wall → Block
 blockBefore scale t wall = let l = pos (baseLength wall) in given scale (ofKind (kindBefore (t .R) (t .M6) l) (t .R) (t .M6) l)
 
@@ -123,7 +139,7 @@ module _ (wall : Wall) (loads : List Load) where
   -- ---- the rules before: stem and heel
 
   abbrev pub stemTableBefore : List Component
-  stemTableBefore = pushRowsBefore wall (restCoefficient wall) (stemHeight wall) (hsatBefore wall) ++ stemLoadTable wall loads
+  stemTableBefore = pushRowsBefore wall (restCoefficient wall) (stemHeight wall) (hsatBefore wall) ++ stemLoadsBefore wall loads
 
   abbrev pub stemActionBefore : Action
   stemActionBefore =
@@ -169,6 +185,16 @@ module _ (wall : Wall) (loads : List Load) where
   lineBefore n = numbersBy n wall workedBefore
 
 -- ---- a wall without a downstand
+
+-- the rows of loads have whole levers still
+loads-same : (loads : List Load) → loadTable loads ≡ loadTableBefore loads
+unfolding loadTable deadRow liveRow loadRow
+loads-same loads = refl
+
+stem-loads-same : (wall : Wall) (loads : List Load) → stemLoadTable wall loads ≡ stemLoadsBefore wall loads
+unfolding stemLoadTable stemLoadRows stemLoadsBefore
+stem-loads-same wall [] = refl
+stem-loads-same wall (load ∷ rest) = rw (stem-loads-same wall rest)
 
 -- the levers on a face whose foot is the base's underside, or its top
 pushes-same : (wall : Wall) (K h hw : ℕ) → pushRows wall K h hw 0 ≡ pushRowsBefore wall K h hw
@@ -221,7 +247,8 @@ module _ (wall : Wall) (none-there : downstandDepth wall ≡ 0) where
     column-same K loads =
         let fill : (n m : ℕ) → n ≡ m → cell (down deadWeight n (overHeel wall)) ≡ cell (down deadWeight m (overHeel wall)) =
         λ n m e. ap (λ (n : ℕ). cell (down deadWeight n (overHeel wall))) e in
-        let rest = ap (λ rows. sumOf cell (rows ++ loadTable loads)) (pushes-there K) in
+        let rest : sumOf cell (pushRows wall K (wallHeight wall) (waterHeight wall) (downstandDepth wall) ++ loadTable loads)
+        ≡ sumOf cell (pushRowsBefore wall K (heightBefore wall) (waterHeight wall) ++ loadTableBefore loads) = rw (pushes-there K, loads-same loads) in
         rw (idle (6 * downstandPosition wall + 3 * downstandThickness wall), +ℤ-idl, fill _ _ saturated-same, fill _ _ moist-same, rest)
 
   totals-same : (counts : Sort → ℤ) (K : ℕ) (loads : List Load) → totals counts (table K wall loads) ≡ totals counts (tableBefore wall K loads)
@@ -245,7 +272,7 @@ module _ (wall : Wall) (none-there : downstandDepth wall ≡ 0) where
 
   stem-same : (loads : List Load) → stemAction wall loads ≡ stemActionBefore wall loads
   unfolding stemAction stemTable
-  stem-same loads = rw (hsat-same, pushes-same wall (restCoefficient wall))
+  stem-same loads = rw (hsat-same, pushes-same wall (restCoefficient wall), stem-loads-same wall loads)
 
   fill-same : (loads : List Load) → fillOnHeel wall ≡ fillBefore wall loads
   unfolding fillOnHeel
@@ -264,7 +291,7 @@ record Stands (l : ℕ) (c : Component) : Type 0 where
 weight-stands : {sort : Sort} {force sixfold l : ℕ} → balances sort ≡ pos 1 → sixfold ≤ 6 * l → Stands l (down sort force sixfold)
 weight-stands {force = f} e h = record { by = λ n. rw e (omega (arith, le→leb, mul-le-mul-left (n * f) h)) }
 
-push-stands : {sort : Sort} (force sixfold : ℕ) {l : ℕ} → balances sort ≡ negsuc 0 → Stands l (across sort force (pos sixfold))
+push-stands : {sort : Sort} (force sixfold : ℕ) {l : ℕ} → balances sort ≡ negsuc 0 → Stands l (acrossBefore sort force sixfold)
 push-stands f d {l} e =
     record {
       by =
@@ -274,14 +301,14 @@ push-stands f d {l} e =
 
 -- one part of every load
 part-stands : (wall : Wall) (weigh press : Sort) (part : Load → ℕ) → balances weigh ≡ pos 1 → balances press ≡ negsuc 0 → (loads : List Load) → AllFit wall loads
-    → All (Stands (baseLength wall)) (map (loadRow weigh press part) loads)
-unfolding loadRow reach
+    → All (Stands (baseLength wall)) (map (loadRowBefore weigh press part) loads)
+unfolding reach
 part-stands wall weigh press part e g [] all = tt
 part-stands wall weigh press part e g (load ∷ loads) all =
     (go (isDown load) (load-within wall load (all .0) .place), part-stands wall weigh press part e g loads (all .1))
   where
     go : (d : Bool) → position load ≤ cond d (baseLength wall) (crestHeight wall)
-        → Stands (baseLength wall) (cond d (down weigh (part load) (6 * position load)) (across press (part load) (pos (6 * position load))))
+        → Stands (baseLength wall) (cond d (down weigh (part load) (6 * position load)) (acrossBefore press (part load) (6 * position load)))
     go true far = weight-stands e (omega arith)
     go false far = push-stands (part load) (6 * position load) g
 
@@ -290,13 +317,13 @@ module _ (wall : Wall) (loads : List Load) (fit : Fit wall loads) (K : ℕ) wher
   ranged = wall-within wall (fit .wall-fits)
 
   rows-stand : All (Stands (baseLength wall)) (tableBefore wall K loads)
-  unfolding loadTable deadRow liveRow baseLength
+  unfolding baseLength
   rows-stand =
       let S = Stands (baseLength wall) in
-      let under = all-joined S (map deadRow loads) (map liveRow loads) (part-stands wall _ _ _ refl refl loads (fit .loads-fit)) (part-stands wall _ _ _ refl refl loads (fit .loads-fit)) in
+      let under = all-joined S (map (loadRowBefore deadWeight deadPush deadLoad) loads) (map (loadRowBefore liveWeight livePush liveLoad) loads) (part-stands wall _ _ _ refl refl loads (fit .loads-fit)) (part-stands wall _ _ _ refl refl loads (fit .loads-fit)) in
       let pushes : All S (pushRowsBefore wall K (heightBefore wall) (waterHeight wall)) =
       (push-stands _ _ refl, (push-stands _ _ refl, (push-stands _ _ refl, (push-stands _ _ refl, (push-stands _ _ refl, tt))))) in
-      let rest = all-joined S (pushRowsBefore wall K (heightBefore wall) (waterHeight wall)) (loadTable loads) pushes under in
+      let rest = all-joined S (pushRowsBefore wall K (heightBefore wall) (waterHeight wall)) (loadTableBefore loads) pushes under in
       (weight-stands refl (omega arith), (weight-stands refl (omega arith), (weight-stands refl (omega arith), (weight-stands refl (omega arith), (weight-stands refl (omega arith), rest)))))
 
   -- each row counts n times by its sort, the base at least once

@@ -6,16 +6,16 @@ use mathlib.Core.List.{List, [], _∷_, _++_, map}
 use Prim.Native.Nat.{ℕ, _+_, _-_, _*_, _≤_, _<_}
 use native.Mathlib.Nat.{mul-pos, mul-le-mul, mul-le-mul-left, mul-le-mul-right}
 use native.Mathlib.Omega.{arith}
-use lib.Dec.{le→leb, lit<, lit≤}
-use lib.IntN.{ℤ, pos, negsuc, natAbs, _*ℤ_, *ℤ-comm}
+use lib.Dec.{lit<, lit≤}
+use lib.IntN.{ℤ, pos, natAbs, _*ℤ_}
 use lib.ListN.{getD, length, length-append, length-map, List·getD-map}
 use lib.Signed.{_≤ℤ_, _<ℤ_}
 use Rattle.whole.specs.Parts.{aboveZero}
 use Rattle.whole.proofs.Rounded.{down-within}
 use Rattle.whole.specs.Sum.{sumTo, sumOf}
-use Rattle.whole.proofs.Integer.{itself, diff-mul, diff-le, *ℤ-assoc, pos-≤ℤ, pos-<ℤ, *ℤ-mono-≤ℤ, sub-nonneg, sub-<ℤ, nonneg-abs, above-most, *ℤ-nonneg, abs-neg, abs-<ℤ, abs-add, abs-sub, abs-weighted}
+use Rattle.whole.proofs.Integer.{pos-≤ℤ, pos-<ℤ, *ℤ-mono-≤ℤ, sub-nonneg, sub-<ℤ, nonneg-abs, above-most, *ℤ-nonneg, abs-neg, abs-<ℤ, abs-add, abs-sub, abs-weighted}
 use Rattle.whole.proofs.Lists.{All, all-joined, all-at}
-use Rattle.whole.proofs.Sums.{sumTo-abs, sumTo-mono, sumTo-nonneg, sumOf-factor, sumOf-zeros, sumOf-joined, sumOf-sumTo, sumOf-less}
+use Rattle.whole.proofs.Sums.{sumTo-abs, sumTo-mono, sumTo-nonneg, sumOf-zeros, sumOf-joined, sumOf-sumTo, sumOf-less}
 use Rattle.rules.specs.declared.Totals.{Totals}
 use Rattle.rules.specs.JobFile.{Wall, Load, stemHeight, heelLength, waterHeight, downstandDepth, soilDensity, activeCoefficient, restCoefficient, passiveCoefficient, baseLength, crestHeight, wallHeight, isDown, position, greatestLoad, reach, frictionTangent}
 use Rattle.rules.specs.Forces.{_less_, squared, saturatedHeight, stemWeight, baseWeight, downstandWeight, saturatedWeight, moistWeight, surchargeWeight, surchargePush, moistPush, moistPushBelow, saturatedPush, waterPush, Sort, deadWeight, liveWeight, deadPush, livePush, Component, down, across, weightRows, pushRows, loadRow, deadRow, liveRow, loadTable, table, vertical, horizontal, moment, columnSum, once, tenths, restores, overturns, rests, totals, service, factored, passiveDepth, passive, lastingWeight, frictionUnder, thousandths}

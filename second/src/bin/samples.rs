@@ -20,7 +20,21 @@ struct Bars {
     shear_stress: u32,
 }
 
-/// The 35 fields of a wall under their names, in the order of documents 01 and 02 but
+/// A downstand: how deep it is, where it begins and how thick it is.
+#[derive(Clone, Copy)]
+struct Downstand {
+    depth: u32,
+    position: u32,
+    thickness: u32,
+}
+
+const NO_DOWNSTAND: Downstand = Downstand {
+    depth: 0,
+    position: 0,
+    thickness: 0,
+};
+
+/// The 38 fields of a wall under their names, in the order of documents 01 and 02 but
 /// for the first two shear stresses, which stand with their bars.
 #[derive(Clone, Copy)]
 struct WallNumbers {
@@ -50,10 +64,37 @@ struct WallNumbers {
     toe_bars: Bars,
     stem_bars: Bars,
     heel_bars: Bars,
+    downstand: Downstand,
+}
+
+impl Bars {
+    fn cage(&self) -> [u32; 3] {
+        [self.cover, self.bar, self.spacing]
+    }
 }
 
 impl WallNumbers {
     fn record(&self) -> RawWall {
+        let (toe, stem, heel) = (&self.toe_bars, &self.stem_bars, &self.heel_bars);
+        let Downstand {
+            depth,
+            position,
+            thickness,
+        } = self.downstand;
+        let numbers = [
+            &self.shape()[..],
+            &self.ground_and_strength(),
+            &toe.cage(),
+            &stem.cage(),
+            &[toe.shear_stress, stem.shear_stress],
+            &heel.cage(),
+            &[heel.shear_stress, depth, position, thickness],
+        ];
+        numbers.concat().try_into().expect("38 numbers")
+    }
+
+    /// Fields 1 to 9.
+    fn shape(&self) -> [u32; 9] {
         [
             self.kind,
             self.stem_height,
@@ -64,6 +105,12 @@ impl WallNumbers {
             self.cover_in_front,
             self.excavation,
             self.water_height,
+        ]
+    }
+
+    /// Fields 10 to 23.
+    fn ground_and_strength(&self) -> [u32; 14] {
+        [
             self.stem_density,
             self.base_density,
             self.moist_density,
@@ -78,18 +125,6 @@ impl WallNumbers {
             self.fcu,
             self.fy,
             self.least_steel,
-            self.toe_bars.cover,
-            self.toe_bars.bar,
-            self.toe_bars.spacing,
-            self.stem_bars.cover,
-            self.stem_bars.bar,
-            self.stem_bars.spacing,
-            self.toe_bars.shear_stress,
-            self.stem_bars.shear_stress,
-            self.heel_bars.cover,
-            self.heel_bars.bar,
-            self.heel_bars.spacing,
-            self.heel_bars.shear_stress,
         ]
     }
 }
@@ -155,6 +190,7 @@ const CASE_A: WallNumbers = WallNumbers {
     },
     stem_bars: CASE_A_STEM,
     heel_bars: CASE_A_STEM,
+    downstand: NO_DOWNSTAND,
 };
 
 /// The stem's bars, and the heel's.
@@ -172,7 +208,7 @@ const DOCUMENT_003: WallNumbers = WallNumbers {
     stem_thickness: 375,     // t_wall
     toe: 2600,               // l_toe
     heel: 200,               // l_heel
-    base_thickness: 350,     // t_base; the depth of downstand is 0
+    base_thickness: 350,     // t_base
     cover_in_front: 0,       // d_cover
     excavation: 0,           // d_exc
     water_height: 3600,      // h_water, up to the crest
@@ -208,6 +244,7 @@ const DOCUMENT_003: WallNumbers = WallNumbers {
         spacing: 100,
         shear_stress: 545, // 0.545 N/mm2, from Table 3.8
     },
+    downstand: NO_DOWNSTAND, // d_ds 0; l_ds 1500 and t_ds 350 stand beside it idle
 };
 
 /// The loads of document 003.
@@ -234,7 +271,7 @@ const DOCUMENT_004_LOWER: WallNumbers = WallNumbers {
     stem_thickness: 300,     // t_wall
     toe: 0,                  // l_toe
     heel: 700,               // l_heel
-    base_thickness: 300,     // t_base; the depth of downstand is 0
+    base_thickness: 300,     // t_base
     cover_in_front: 0,       // d_cover
     excavation: 300,         // d_exc
     water_height: 0,         // h_water
@@ -260,6 +297,7 @@ const DOCUMENT_004_LOWER: WallNumbers = WallNumbers {
         shear_stress: 304, // 0.304 N/mm2, the masonry's allowable stress
     },
     heel_bars: A393,
+    downstand: NO_DOWNSTAND, // d_ds 0; l_ds 450 and t_ds 300 stand beside it idle
 };
 
 /// The mesh of document 004's heel, which is 10 mm at 200 mm.
@@ -306,6 +344,96 @@ fn every_check() -> Draft {
     Draft {
         walls: vec![OVERLOADED.record(); 2],
         loads: vec![HOLDING.on(1)],
+    }
+}
+
+/// Case A's wall on clay, where friction and what lies in front aren't enough.
+const ON_CLAY: WallNumbers = WallNumbers {
+    cover_in_front: 300,
+    tangent: 250,
+    ..CASE_A
+};
+
+/// The same with a key of 500 x 300 that begins at a place.
+const fn keyed_at(position: u32) -> WallNumbers {
+    WallNumbers {
+        downstand: Downstand {
+            depth: 500,
+            position,
+            thickness: 300,
+        },
+        ..ON_CLAY
+    }
+}
+
+/// At the front edge of the toe, under the stem and at the end of the heel.
+const KEYED_UNDER_TOE: WallNumbers = keyed_at(0);
+const KEYED_UNDER_STEM: WallNumbers = keyed_at(500);
+const KEYED_UNDER_HEEL: WallNumbers = keyed_at(2000);
+
+/// Water that ends within the base, 100 mm above its underside.
+const KEYED_IN_WATER: WallNumbers = WallNumbers {
+    water_height: 600,
+    ..KEYED_UNDER_HEEL
+};
+
+/// A low wall by a path, keyed deeper than it is high.
+const LOW_AND_KEYED: WallNumbers = WallNumbers {
+    stem_height: 600,
+    stem_thickness: 200,
+    toe: 400,
+    heel: 400,
+    base_thickness: 200,
+    surcharge: 250,
+    downstand: Downstand {
+        depth: 900,
+        position: 400,
+        thickness: 200,
+    },
+    ..ON_CLAY
+};
+
+/// A panel cast in a trench: no toe, no heel, and a metre of it below the base.
+const CAST_IN_A_TRENCH: WallNumbers = WallNumbers {
+    stem_height: 500,
+    stem_thickness: 200,
+    toe: 0,
+    heel: 0,
+    base_thickness: 200,
+    ka: 500,
+    surcharge: 0,
+    downstand: Downstand {
+        depth: 1000,
+        position: 0,
+        thickness: 200,
+    },
+    ..ON_CLAY
+};
+
+/// A pull at the crest of the panel that brings R just to the end of its base.
+const TO_THE_END: LoadNumbers = LoadNumbers {
+    direction: ACROSS,
+    position: 700,
+    dead: 6885,
+    live: 0,
+};
+
+/// The wall that slides, keyed in three ways and in water; a low one; a panel, and the
+/// panel with a pull.
+fn downstand() -> Draft {
+    let walls = [
+        ON_CLAY,
+        KEYED_UNDER_TOE,
+        KEYED_UNDER_STEM,
+        KEYED_UNDER_HEEL,
+        KEYED_IN_WATER,
+        LOW_AND_KEYED,
+        CAST_IN_A_TRENCH,
+        CAST_IN_A_TRENCH,
+    ];
+    Draft {
+        walls: walls.iter().map(WallNumbers::record).collect(),
+        loads: vec![TO_THE_END.on(8)],
     }
 }
 
@@ -409,8 +537,17 @@ const PULLING: [Share; 8] = [
     across(1000, 0, 3000),
 ];
 
-/// A kind of wall of `full.job`: toe and heel in thousandths of the stem's
-/// height, water in thousandths of the wall's; the rest is document 01's field.
+/// Where the downstand of a kind of wall stands.
+#[derive(Clone, Copy)]
+enum Key {
+    FrontOfToe,
+    UnderStem,
+    EndOfHeel,
+}
+
+/// A kind of wall of `full.job`: toe, heel and depth of downstand in thousandths of the
+/// stem's height, water in thousandths of the wall's; the rest is document 01's field. A
+/// downstand is as thick as the stem.
 struct Family {
     kind: u32,
     toe: u32,
@@ -420,6 +557,7 @@ struct Family {
     cover_in_front: u32,
     excavation: u32,
     allowable: u32,
+    downstand: Option<(u32, Key)>,
     loads: &'static [Share; 8],
 }
 
@@ -432,6 +570,7 @@ const FREE_STANDING: Family = Family {
     cover_in_front: 300,
     excavation: 0,
     allowable: 150,
+    downstand: None,
     loads: &LIGHT,
 };
 
@@ -444,6 +583,7 @@ const BEHIND_A_FLOOR: Family = Family {
     cover_in_front: 200,
     excavation: 0,
     allowable: 150,
+    downstand: None,
     loads: &PULLING,
 };
 
@@ -456,6 +596,7 @@ const BY_A_POND: Family = Family {
     cover_in_front: 500,
     excavation: 200,
     allowable: 100,
+    downstand: Some((120, Key::EndOfHeel)),
     loads: &LIGHT,
 };
 
@@ -468,6 +609,7 @@ const BASEMENT: Family = Family {
     cover_in_front: 0,
     excavation: 0,
     allowable: 170,
+    downstand: None,
     loads: &LIGHT,
 };
 
@@ -480,6 +622,7 @@ const AT_THE_BOUNDARY: Family = Family {
     cover_in_front: 0,
     excavation: 300,
     allowable: 200,
+    downstand: Some((150, Key::FrontOfToe)),
     loads: &LIGHT,
 };
 
@@ -492,6 +635,7 @@ const WITHOUT_A_TOE: Family = Family {
     cover_in_front: 0,
     excavation: 400,
     allowable: 200,
+    downstand: Some((150, Key::UnderStem)),
     loads: &LIGHT,
 };
 
@@ -504,6 +648,7 @@ const UNDER_A_BUILDING: Family = Family {
     cover_in_front: 0,
     excavation: 0,
     allowable: 300,
+    downstand: None,
     loads: &OVER_THE_HEEL,
 };
 
@@ -516,6 +661,7 @@ const QUAY: Family = Family {
     cover_in_front: 300,
     excavation: 150,
     allowable: 120,
+    downstand: None,
     loads: &PULLING,
 };
 
@@ -534,6 +680,22 @@ fn part(thousandths: u32, whole: u32) -> u32 {
     thousandths * whole / 1000
 }
 
+/// The downstand of a family's wall with these lengths of toe and heel.
+fn downstand_of(family: &Family, size: &Size, toe: u32, heel: u32) -> Downstand {
+    let Some((depth, key)) = family.downstand else {
+        return NO_DOWNSTAND;
+    };
+    Downstand {
+        depth: part(depth, size.stem_height),
+        position: match key {
+            Key::FrontOfToe => 0,
+            Key::UnderStem => toe,
+            Key::EndOfHeel => toe + heel,
+        },
+        thickness: size.stem_thickness,
+    }
+}
+
 /// A family's wall of a size; soil, concrete and covers are case A's.
 fn wall_of(family: &Family, size: &Size) -> RawWall {
     let bars = |case_a: Bars| Bars {
@@ -541,21 +703,26 @@ fn wall_of(family: &Family, size: &Size) -> RawWall {
         spacing: size.spacing,
         ..case_a
     };
+    let toe = part(family.toe, size.stem_height);
+    let heel = part(family.heel, size.stem_height);
+    let downstand = downstand_of(family, size, toe, heel);
+    let height = size.stem_height + size.base_thickness + downstand.depth;
     let wall = WallNumbers {
         kind: family.kind,
         stem_height: size.stem_height,
         stem_thickness: size.stem_thickness,
-        toe: part(family.toe, size.stem_height),
-        heel: part(family.heel, size.stem_height),
+        toe,
+        heel,
         base_thickness: size.base_thickness,
         cover_in_front: family.cover_in_front,
         excavation: family.excavation,
-        water_height: part(family.water, size.stem_height + size.base_thickness),
+        water_height: part(family.water, height),
         allowable: family.allowable,
         surcharge: family.surcharge,
         toe_bars: bars(CASE_A.toe_bars),
         stem_bars: bars(CASE_A.stem_bars),
         heel_bars: bars(CASE_A.heel_bars),
+        downstand,
         ..CASE_A
     };
     wall.record()
@@ -597,7 +764,7 @@ fn full() -> Draft {
     Draft { walls, loads }
 }
 
-fn samples() -> [(&'static str, Draft); 5] {
+fn samples() -> [(&'static str, Draft); 6] {
     [
         ("case-a.job", one_wall(&CASE_A, &[])),
         (
@@ -608,6 +775,7 @@ fn samples() -> [(&'static str, Draft); 5] {
             "document-004-lower.job",
             one_wall(&DOCUMENT_004_LOWER, &DOCUMENT_004_LOWER_LOADS),
         ),
+        ("downstand.job", downstand()),
         ("every-check.job", every_check()),
         ("full.job", full()),
     ]

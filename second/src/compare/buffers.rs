@@ -64,7 +64,7 @@ const BEYOND: [(&str, Change); 7] = [
     ("a number fewer", |random, records| {
         either(random, records).pop();
     }),
-    ("one wall of 36 numbers", one_wall_of_36_numbers),
+    ("one wall of 39 numbers", one_wall_of_39_numbers),
     ("no walls", |_, records| records.walls.clear()),
     ("65 walls", |_, records| {
         repeat_to(&mut records.walls, WALL_FIELDS * (MOST_WALLS + 1));
@@ -148,7 +148,7 @@ impl Buffers {
         MOST_BYTES.min(HEADER_BYTES + WALL_BYTES * walls + LOAD_BYTES * loads)
     }
 
-    /// "35 and 5 numbers (a number more, no walls)".
+    /// "38 and 5 numbers (a number more, no walls)".
     pub fn in_words(&self) -> String {
         let Records { walls, loads } = &self.records;
         let changes = match self.changes.as_slice() {
@@ -227,7 +227,7 @@ fn either<'a>(random: &mut Random, records: &'a mut Records) -> &'a mut Vec<u32>
     }
 }
 
-fn one_wall_of_36_numbers(_: &mut Random, records: &mut Records) {
+fn one_wall_of_39_numbers(_: &mut Random, records: &mut Records) {
     records.walls.resize(WALL_FIELDS, 0);
     records.walls.push(1);
 }

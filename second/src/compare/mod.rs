@@ -92,7 +92,7 @@ impl<'a, O: Office> Comparer<'a, O> {
         self.hold_writing(job, accepted.is_ok(), random)?;
         let worked = accepted.map(|job| {
             let worked = work_job(&job);
-            self.tally.count_tips(&job.walls, &worked);
+            self.tally.count_underfoot(&job.walls, &worked);
             worked
         });
         let walls = worked.iter().flatten().map(|wall| wall.failures);

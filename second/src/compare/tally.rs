@@ -2,6 +2,8 @@
 
 use crate::answers::Refusal;
 use crate::bearing::{Bearing, Contact, Reported};
+use crate::downstand::Underfoot;
+use crate::forces::{pushes, Back};
 use crate::heel::Reach;
 use crate::job_file::Wall;
 use crate::office::Packed;
@@ -57,16 +59,22 @@ pub struct Tally {
     heels_left_out: [u64; LEFT_OUT.len()],
     /// Heels, by figures that count as 0 and by failing alone; one may be in several.
     heel_facts: [u64; HEEL_FACTS.len()],
+    /// Walls with a downstand, by where it stands and by what is below 0; one may be in
+    /// several.
+    downstands: u64,
+    downstand_places: [u64; DOWNSTAND_PLACES.len()],
+    downstand_facts: [u64; DOWNSTAND_FACTS.len()],
 }
 
 const SHAPES: [&str; 4] = ["nothing", "whole", "toe triangle", "heel triangle"];
 
-const BLOCKS: [&str; 5] = [
+const BLOCKS: [&str; 6] = [
     "full",
     "toe triangle",
     "heel triangle",
     "none for want of moment",
     "none for its peak",
+    "none with R at the heel's end or past it",
 ];
 
 /// In the order of [`Tip`].
@@ -116,6 +124,47 @@ fn heel_facts(wall: &Worked, heel: &Section) -> [bool; HEEL_FACTS.len()] {
     ]
 }
 
+/// In the order of [`downstand_places`].
+const DOWNSTAND_PLACES: [&str; 5] = [
+    "under the toe",
+    "under the stem",
+    "under the heel",
+    "across the front face",
+    "across the back face",
+];
+
+fn downstand_places(wall: &Wall) -> [bool; DOWNSTAND_PLACES.len()] {
+    let place = Underfoot::of(wall);
+    [
+        place.under_toe(),
+        place.under_stem(),
+        place.under_heel(),
+        place.across_face(),
+        place.across_back(),
+    ]
+}
+
+/// In the order of [`downstand_facts`].
+const DOWNSTAND_FACTS: [&str; 5] = [
+    "water below the base",
+    "lever of surcharge or moist fill below 0",
+    "lever of saturated fill and water below 0",
+    "service Mot below 0",
+    "factored Mot below 0",
+];
+
+fn downstand_facts(wall: &Wall, worked: &Worked) -> [bool; DOWNSTAND_FACTS.len()] {
+    let [surcharge, above, below, saturated, _] =
+        pushes(wall, wall.ka, Back::of_wall(wall)).map(|push| push.moment < 0);
+    [
+        wall.water_height < wall.downstand.depth,
+        surcharge || above || below,
+        saturated,
+        worked.service.mot < 0,
+        worked.factored.mot < 0,
+    ]
+}
+
 fn count_facts<const N: usize>(counts: &mut [u64; N], facts: [bool; N]) {
     for (count, fact) in counts.iter_mut().zip(facts) {
         *count += u64::from(fact);
@@ -146,6 +195,7 @@ fn place_of(bearing: &Bearing) -> usize {
         },
         Bearing::NoBlock => 3,
         Bearing::PeakTooGreat(_) => 4,
+        Bearing::PastHeel => 5,
     }
 }
 
@@ -191,8 +241,9 @@ impl Tally {
         }
     }
 
-    /// Of the walls of a job: what is under a toe that is checked, and under a heel.
-    pub fn count_tips(&mut self, walls: &[Wall], worked: &[Worked]) {
+    /// Of the walls of a job: what is under a toe that is checked, and under a heel; and
+    /// their downstands.
+    pub fn count_underfoot(&mut self, walls: &[Wall], worked: &[Worked]) {
         for (wall, worked) in walls.iter().zip(worked) {
             let bearing = worked.factored_bearing.given();
             if let Some(bearing) = bearing.filter(|_| worked.toe.is_some()) {
@@ -201,6 +252,11 @@ impl Tally {
             match bearing.filter(|_| worked.heel.is_some()) {
                 Some(bearing) => self.count_under_heel(wall, bearing),
                 None => count(&mut self.heels_left_out, usize::from(wall.heel > 0)),
+            }
+            if wall.downstand.depth > 0 {
+                self.downstands += 1;
+                count_facts(&mut self.downstand_places, downstand_places(wall));
+                count_facts(&mut self.downstand_facts, downstand_facts(wall, worked));
             }
         }
     }
@@ -287,6 +343,9 @@ impl Tally {
         add(&mut self.heel_reaches, &other.heel_reaches);
         add(&mut self.heels_left_out, &other.heels_left_out);
         add(&mut self.heel_facts, &other.heel_facts);
+        self.downstands += other.downstands;
+        add(&mut self.downstand_places, &other.downstand_places);
+        add(&mut self.downstand_facts, &other.downstand_facts);
     }
 }
 
@@ -351,7 +410,8 @@ impl Tally {
         ]
     }
 
-    fn rows_of_walls(&self) -> [Row; 13] {
+    fn rows_of_walls(&self) -> [Row; 15] {
+        let places = named(&DOWNSTAND_PLACES, &self.downstand_places);
         [
             ("service block, in walls", named(&BLOCKS, &self.service)),
             ("factored block, in walls", named(&BLOCKS, &self.factored)),
@@ -374,6 +434,14 @@ impl Tally {
                 named(&LEFT_OUT, &self.heels_left_out),
             ),
             ("heel, in heels", named(&HEEL_FACTS, &self.heel_facts)),
+            (
+                "downstand, in walls",
+                format!("{}; {places}", self.downstands),
+            ),
+            (
+                "beside a downstand, in walls with one",
+                named(&DOWNSTAND_FACTS, &self.downstand_facts),
+            ),
             ("bits set, in walls", bits(&self.bits)),
         ]
     }

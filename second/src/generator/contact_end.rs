@@ -1,7 +1,7 @@
 //! Jobs whose factored triangle comes to nothing before the face of the stem, at
 //! it, before the middle of the stem, at it or past it.
 
-use super::draft::{crest, load_at, typical_wall, wide_wall, Draft, Place};
+use super::draft::{crest, fit, load_at, typical_wall, wide_wall, Draft, Place};
 use super::edges::{push_across, worked, Landing, MOST_TRIES};
 use super::{Due, Sample};
 use crate::bearing::Contact::{self, HeelTriangle, ToeTriangle};
@@ -158,7 +158,7 @@ fn weighed_down(random: &mut Random, kind: Contact) -> Draft {
             wall[field::TOE] = random.between(1, 1500);
             wall[field::STEM_THICKNESS] = random.between(200, 1500);
             wall[field::BASE_THICKNESS] = random.between(200, 300);
-            wall[field::WATER_HEIGHT] = wall[field::WATER_HEIGHT].min(crest(&wall));
+            fit(&mut wall);
             (Place::Heel, 1 + random.below(4))
         }
         _ => (Place::Between, random.below(5)),

@@ -1,8 +1,8 @@
 //! A job file while it is being made up, right or wrong.
 
 use crate::job_file::{
-    field, Job, Load, Range, RawLoad, RawWall, Wall, BARS, EDITION, HEADER_BYTES, LOAD_BYTES,
-    MOST_LOAD, RANGES, WALL_BYTES, WALL_FIELDS,
+    field, Job, Load, Range, RawLoad, RawWall, Wall, BARS, DOWNSTAND_THICKNESSES, EDITION,
+    HEADER_BYTES, LOAD_BYTES, MOST_LOAD, RANGES, WALL_BYTES, WALL_FIELDS,
 };
 use crate::random::Random;
 
@@ -86,18 +86,33 @@ impl Draft {
     }
 }
 
-/// Lowest and highest value of a wall field counted from 0.
+/// Lowest and highest value of a wall field counted from 0, by the other fields as they
+/// stand. A downstand has a position up to l, but with one past l - 100 no thickness.
 pub fn ends(wall: &RawWall, index: usize) -> (u32, u32) {
+    let no_downstand = wall[field::DOWNSTAND_DEPTH] == 0;
     match RANGES[index] {
         Range::Between(low, high) => (low, high),
         Range::Bar => (BARS[0], BARS[7]),
-        Range::Water => (0, crest(wall)),
+        Range::Water => (0, height(wall)),
+        Range::DownstandPosition | Range::DownstandThickness if no_downstand => (0, 0),
+        Range::DownstandPosition => (0, length(wall)),
+        Range::DownstandThickness => {
+            let (thinnest, thickest) = DOWNSTAND_THICKNESSES;
+            let left = length(wall).saturating_sub(wall[field::DOWNSTAND_POSITION]);
+            (thinnest, thickest.min(left))
+        }
     }
 }
 
-/// h, mm; of fields far past their ranges, no more than a u32 holds.
+/// hs + tb, mm, as far as a horizontal load may stand above the underside of the base; of
+/// fields far past their ranges, no more than a u32 holds.
 pub fn crest(wall: &RawWall) -> u32 {
     wall[field::STEM_HEIGHT].saturating_add(wall[field::BASE_THICKNESS])
+}
+
+/// h, mm, with the downstand; of fields far past their ranges, no more than a u32 holds.
+pub fn height(wall: &RawWall) -> u32 {
+    crest(wall).saturating_add(wall[field::DOWNSTAND_DEPTH])
 }
 
 /// l, mm; of fields far past their ranges, no more than a u32 holds.
@@ -107,8 +122,30 @@ pub fn length(wall: &RawWall) -> u32 {
         .saturating_add(wall[field::HEEL])
 }
 
-/// Ranges of a wall an engineer might send, in the order of the fields; the
-/// water comes later.
+/// Brings water and downstand within a wall whose lengths were changed.
+pub fn fit(wall: &mut RawWall) {
+    wall[field::WATER_HEIGHT] = wall[field::WATER_HEIGHT].min(height(wall));
+    if wall[field::DOWNSTAND_DEPTH] == 0 {
+        wall[field::DOWNSTAND_POSITION] = 0;
+        wall[field::DOWNSTAND_THICKNESS] = 0;
+        return;
+    }
+    let (thinnest, thickest) = DOWNSTAND_THICKNESSES;
+    let thickness = wall[field::DOWNSTAND_THICKNESS].clamp(thinnest, thickest);
+    let thickness = thickness.min(length(wall));
+    let furthest = length(wall) - thickness;
+    wall[field::DOWNSTAND_THICKNESS] = thickness;
+    wall[field::DOWNSTAND_POSITION] = wall[field::DOWNSTAND_POSITION].min(furthest);
+}
+
+/// Takes the downstand away, and as much water as its depth had at most.
+pub fn without_downstand(wall: &mut RawWall) {
+    wall[field::DOWNSTAND_DEPTH] = 0;
+    fit(wall);
+}
+
+/// Ranges of a wall an engineer might send, in the order of the fields; water and
+/// downstand come later.
 const TYPICAL: [(u32, u32); WALL_FIELDS] = [
     (0, 1),
     (1500, 5000),
@@ -145,32 +182,94 @@ const TYPICAL: [(u32, u32); WALL_FIELDS] = [
     (0, 0),
     (100, 300),
     (350, 900),
+    (0, 0),
+    (0, 0),
+    (0, 0),
 ];
 
+/// Likely depths of a downstand, and thicknesses.
+const TYPICAL_DOWNSTAND: [(u32, u32); 2] = [(150, 600), (200, 500)];
+
+/// One wall in three has a downstand.
 pub fn typical_wall(random: &mut Random) -> RawWall {
     let mut wall: RawWall = std::array::from_fn(|i| random.between(TYPICAL[i].0, TYPICAL[i].1));
+    if random.once_in(3) {
+        let [depths, thicknesses] = TYPICAL_DOWNSTAND;
+        put_downstand(random, &mut wall, depths, thicknesses);
+    }
     wall[field::TOE_BAR] = random.pick(&BARS[2..7]);
     wall[field::STEM_BAR] = random.pick(&BARS[2..7]);
     wall[field::HEEL_BAR] = random.pick(&BARS[2..7]);
     wall[field::WATER_HEIGHT] = match random.below(3) {
         0 => 0,
         1 => random.between(1, wall[field::BASE_THICKNESS]),
-        _ => random.between(0, crest(&wall) / 2),
+        _ => random.between(0, height(&wall) / 2),
     };
     wall
 }
 
-/// Every field anywhere in its range.
+/// A downstand of some depth and thickness anywhere under a base.
+fn put_downstand(random: &mut Random, wall: &mut RawWall, depths: Span, thicknesses: Span) {
+    wall[field::DOWNSTAND_DEPTH] = random.between(depths.0, depths.1);
+    let thickness = random.between(thicknesses.0, thicknesses.1.min(length(wall)));
+    wall[field::DOWNSTAND_THICKNESS] = thickness;
+    wall[field::DOWNSTAND_POSITION] = random.between(0, length(wall) - thickness);
+    // It may be less deep than the one before.
+    fit(wall);
+}
+
+/// Lowest and highest.
+type Span = (u32, u32);
+
+/// A downstand of any depth and thickness anywhere under a base.
+pub fn put_any_downstand(random: &mut Random, wall: &mut RawWall) {
+    let (_, deepest) = ends(wall, field::DOWNSTAND_DEPTH);
+    put_downstand(random, wall, (1, deepest), DOWNSTAND_THICKNESSES);
+}
+
+/// Every field anywhere in its range; one wall in two has a downstand, and one in ten is
+/// low besides.
 pub fn wide_wall(random: &mut Random) -> RawWall {
+    if random.once_in(10) {
+        low_wall(random)
+    } else {
+        any_wall(random)
+    }
+}
+
+/// A low wall with a short base and a deep downstand, so that much of what pushes stands
+/// below the underside of the base.
+pub fn low_wall(random: &mut Random) -> RawWall {
+    let mut wall = any_wall(random);
+    wall[field::STEM_HEIGHT] = random.between(500, 1000);
+    wall[field::STEM_THICKNESS] = random.between(200, 400);
+    wall[field::TOE] = random.between(0, 300);
+    wall[field::HEEL] = random.between(0, 800);
+    wall[field::BASE_THICKNESS] = random.between(200, 400);
+    put_any_downstand(random, &mut wall);
+    wall[field::DOWNSTAND_DEPTH] = random.between(600, 1000);
+    wall[field::WATER_HEIGHT] = match random.below(3) {
+        0 => 0,
+        1 => random.between(1, wall[field::DOWNSTAND_DEPTH]),
+        _ => random.between(0, height(&wall)),
+    };
+    fit(&mut wall);
+    wall
+}
+
+fn any_wall(random: &mut Random) -> RawWall {
     let mut wall: RawWall = [0; WALL_FIELDS];
-    for index in 0..WALL_FIELDS {
+    for index in 0..field::DOWNSTAND_DEPTH {
         wall[index] = match RANGES[index] {
             Range::Between(low, high) => random.between(low, high),
             Range::Bar => random.pick(&BARS),
-            Range::Water => 0,
+            _ => 0,
         };
     }
-    wall[field::WATER_HEIGHT] = random.between(0, crest(&wall));
+    if random.once_in(2) {
+        put_any_downstand(random, &mut wall);
+    }
+    wall[field::WATER_HEIGHT] = random.between(0, height(&wall));
     wall
 }
 

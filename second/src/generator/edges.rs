@@ -151,7 +151,7 @@ pub fn push_across(draft: &mut Draft, foot: u32, height: u32, steps: Whole) -> O
 
 /// Brings the service M6 down with horizontal loads: 6 sixths a N mm.
 fn service_moment(random: &mut Random, target: Target, landing: Landing) -> Option<Draft> {
-    let mut draft = weighed_down(random, target);
+    let draft = weighed_down(random, target);
     let job = draft.job();
     let total = service_totals(&job.walls[0], &job.loads);
     let (r, l) = (total.r, job.walls[0].base_length());
@@ -164,8 +164,23 @@ fn service_moment(random: &mut Random, target: Target, landing: Landing) -> Opti
         Target::HeelPeak => 6 * r * l - r * r / 500,
         Target::Overturning => total.m6 - (total.mrest - total.mot),
     };
-    let moment = landing.steps(total.m6 - goal, 6)?;
     let height = coarse_height(random, &draft);
+    bring_service(&draft, |_, _| goal, height, landing)
+}
+
+/// Brings the service M6 to a goal, which goes by R and l, or a step short of it or past
+/// it; by loads across, most of them at a height.
+pub fn bring_service(
+    draft: &Draft,
+    goal: impl Fn(Whole, Whole) -> Whole,
+    height: u32,
+    landing: Landing,
+) -> Option<Draft> {
+    let mut draft = draft.clone();
+    let job = draft.job();
+    let total = service_totals(&job.walls[0], &job.loads);
+    let goal = goal(total.r, job.walls[0].base_length());
+    let moment = landing.steps(total.m6 - goal, 6)?;
     let coarse = moment / Whole::from(height);
     let dead = coarse.min(Whole::from(MOST_LOAD));
     let fine = moment % Whole::from(height);

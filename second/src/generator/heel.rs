@@ -3,9 +3,11 @@
 //! and roundings where they show.
 
 use super::contact_end::bring_tip;
-use super::draft::{crest, length, load_at, typical_wall, wide_wall, Draft, Place, DOWN};
+use super::draft::{
+    crest, fit, height, length, load_at, typical_wall, wide_wall, Draft, Place, DOWN,
+};
 use super::edges::{shear, worked, Landing, Part};
-use super::seek::candidate;
+use super::seek::sought;
 use super::steel_hundredth::{by_least, by_load, Cage};
 use super::{Due, Sample};
 use crate::bearing::Contact::{self, HeelTriangle, ToeTriangle};
@@ -13,7 +15,6 @@ use crate::heel::Reach;
 use crate::job_file::{field, RawWall, MOST_LOAD};
 use crate::random::Random;
 use crate::section::Effects;
-use crate::traits::of_job;
 
 /// Walls tried before one is taken as it is.
 const MOST_TRIES: usize = 3000;
@@ -71,25 +72,6 @@ pub fn heel(random: &mut Random, index: usize) -> Sample {
 /// Neither figure of a heel counts as 0.
 const ABOVE_0: &[&str] = &["not heel-shear-below-0", "not heel-moment-below-0"];
 
-/// A wall made up by chance and prepared, if it has the words wished, and none that
-/// stands behind `not`.
-fn sought(
-    random: &mut Random,
-    prepare: fn(&mut Random, &mut RawWall),
-    words: &[&str],
-) -> Option<Draft> {
-    let mut draft = candidate(random);
-    prepare(random, &mut draft.walls[0]);
-    // A load may have come to stand past the end of a heel that is taken away.
-    let kept = draft.job().loads.len();
-    let met = of_job(&draft.job());
-    let fits = words.iter().all(|word| match word.strip_prefix("not ") {
-        Some(unwanted) => !met.contains(&unwanted),
-        None => met.contains(word),
-    });
-    (fits && kept == draft.loads.len()).then_some(draft)
-}
-
 fn any(_: &mut Random, _: &mut RawWall) {}
 
 /// A cage that fails whatever is asked of it.
@@ -102,6 +84,7 @@ fn weak(_: &mut Random, wall: &mut RawWall) {
 
 fn no_heel(random: &mut Random, wall: &mut RawWall) {
     wall[field::HEEL] = 0;
+    fit(wall);
     weak(random, wall);
 }
 
@@ -111,7 +94,7 @@ fn thin_base(random: &mut Random, wall: &mut RawWall) {
     wall[field::HEEL] = random.between(2000, 5000);
     wall[field::FCU] = random.between(20, 30);
     wall[field::HEEL_SHEAR_STRESS] = 5000;
-    wall[field::WATER_HEIGHT] = wall[field::WATER_HEIGHT].min(crest(wall));
+    fit(wall);
 }
 
 fn odd_stem(_: &mut Random, wall: &mut RawWall) {
@@ -120,13 +103,15 @@ fn odd_stem(_: &mut Random, wall: &mut RawWall) {
 
 /// Water up to the crest, and nothing on the fill.
 fn drowned(_: &mut Random, wall: &mut RawWall) {
-    wall[field::WATER_HEIGHT] = crest(wall);
+    wall[field::WATER_HEIGHT] = height(wall);
     wall[field::SURCHARGE] = 0;
     wall[field::STEM_THICKNESS] &= !1;
+    fit(wall);
 }
 
 fn dry(_: &mut Random, wall: &mut RawWall) {
-    wall[field::WATER_HEIGHT] = wall[field::WATER_HEIGHT].min(wall[field::BASE_THICKNESS]);
+    let base_top = wall[field::DOWNSTAND_DEPTH] + wall[field::BASE_THICKNESS];
+    wall[field::WATER_HEIGHT] = wall[field::WATER_HEIGHT].min(base_top);
     wall[field::SURCHARGE] = 0;
     wall[field::STEM_THICKNESS] |= 1;
 }
@@ -261,6 +246,7 @@ fn long_toe(random: &mut Random, wall: &mut RawWall) {
     wall[field::STEM_HEIGHT] = random.between(3000, 8000);
     wall[field::K0] = random.between(1, 300);
     wall[field::WATER_HEIGHT] = 0;
+    fit(wall);
 }
 
 /// A low and thick stem with a short heel, on which most of the load is the surcharge.
@@ -275,6 +261,7 @@ fn thick_and_low(random: &mut Random, wall: &mut RawWall) {
     wall[field::SURCHARGE] = random.between(8000, 10_000);
     wall[field::K0] = random.between(1, 20);
     wall[field::WATER_HEIGHT] = 0;
+    fit(wall);
 }
 
 fn twice_distance(random: &mut Random, wall: &RawWall, kind: Contact, reach: Reach) -> u32 {

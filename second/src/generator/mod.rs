@@ -1,12 +1,14 @@
 //! Seeded job files: the same seed gives the same files everywhere.
 
 mod contact_end;
+mod downstand;
 pub mod draft;
 mod edges;
 mod heel;
 mod lever_arm;
 mod raw;
 mod refused;
+mod refused_downstand;
 mod seek;
 mod steel_hundredth;
 mod valid;
@@ -36,7 +38,7 @@ pub type Maker = fn(&mut Random, usize) -> Sample;
 
 /// A kind's place is part of its seed, so that a new one comes last and leaves the
 /// jobs of the others as they were.
-pub const KINDS: [(&str, Maker); 32] = [
+pub const KINDS: [(&str, Maker); 34] = [
     ("typical", valid::typical),
     ("wide", valid::wide),
     ("field-ends", valid::field_ends),
@@ -69,6 +71,8 @@ pub const KINDS: [(&str, Maker); 32] = [
     ("contact-end", contact_end::contact_end),
     ("steel-hundredth", steel_hundredth::steel_hundredth),
     ("heel", heel::heel),
+    ("downstand", downstand::downstand),
+    ("refused-downstand", refused_downstand::refused_downstand),
 ];
 
 /// The sample of a seed, a place in [`KINDS`] and an index from 0.

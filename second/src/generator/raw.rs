@@ -1,7 +1,7 @@
 //! Bytes that need not be a job at all.
 
 use super::{valid, Due, Sample};
-use crate::job_file::HEADER_BYTES;
+use crate::job_file::{Header, HEADER_BYTES, WALL_BYTES};
 use crate::random::Random;
 
 /// A valid file with a few bits or bytes changed. Two times in three the
@@ -35,17 +35,17 @@ pub fn raw(random: &mut Random, index: usize) -> Sample {
         1 => random.bytes(1),
         2 => random.bytes(11),
         3 => random.bytes(12),
-        4 => vec![1, 0, 1, 0, 12, 0, 0, 0, 152, 0, 152, 0],
+        4 => right_header(),
         5 => {
             let count = 13 + random.below(400);
             random.bytes(count)
         }
-        6 => random.bytes(65_536 + 152),
+        6 => random.bytes(65_536 + HEADER_BYTES + WALL_BYTES),
         7 => longer(random, 65_536),
         8 => {
             // A right header, then noise.
-            let mut bytes = vec![1, 0, 1, 0, 12, 0, 0, 0, 152, 0, 152, 0];
-            bytes.extend(random.bytes(140));
+            let mut bytes = right_header();
+            bytes.extend(random.bytes(WALL_BYTES));
             bytes
         }
         _ => longer(random, 200_000),
@@ -54,6 +54,12 @@ pub fn raw(random: &mut Random, index: usize) -> Sample {
         bytes,
         due: Due::Unknown,
     }
+}
+
+/// The header of a file with one wall.
+fn right_header() -> Vec<u8> {
+    let numbers = Header::due(1, 0).numbers();
+    numbers.iter().flat_map(|n| n.to_le_bytes()).collect()
 }
 
 /// A valid file with bytes after it.

@@ -2,8 +2,8 @@
 //! it was made; and their accepted neighbours.
 
 use super::draft::{
-    any_load, crest, ends, length, typical_wall, Draft, ACROSS, DOWN, EDITION_AT, FIRST_LOAD_AT,
-    FIRST_WALL_AT, LENGTH_AT, LOADS_AT, WALLS_AT,
+    any_load, crest, ends, height, length, put_any_downstand, typical_wall, without_downstand,
+    Draft, ACROSS, DOWN, EDITION_AT, FIRST_LOAD_AT, FIRST_WALL_AT, LENGTH_AT, LOADS_AT, WALLS_AT,
 };
 use super::{Due, Sample};
 use crate::job_file::{
@@ -62,12 +62,15 @@ pub fn short(random: &mut Random, index: usize) -> Sample {
     refused(bytes, 1, 0)
 }
 
+/// The edition before, the one to come, and numbers with one byte or the other alike.
+const OTHER_EDITIONS: [u16; 7] = [1, 3, 0, 258, 512, 514, 65_535];
+
 /// Another edition, alone and with later faults beside it.
 pub fn edition(random: &mut Random, index: usize) -> Sample {
     let mut draft = valid(random, 2, 1);
     let mut header = draft.header();
-    header[EDITION_AT] = [0, 2, 256, 257, 65_535][index % 5];
-    match index / 5 % 6 {
+    header[EDITION_AT] = OTHER_EDITIONS[index % OTHER_EDITIONS.len()];
+    match index / OTHER_EDITIONS.len() % 6 {
         0 => {}
         1 => header[WALLS_AT] = [0, 65][index % 2],
         2 => header[FIRST_WALL_AT] = 13,
@@ -224,11 +227,16 @@ pub fn out_of_range(random: &mut Random, wall: &RawWall, place: usize) -> u32 {
 }
 
 /// Each wall field in turn just below its range and then just above it, in each
-/// of three walls in turn, and no other fault.
+/// of three walls in turn, and no other fault. Without a downstand its position alone can
+/// be bad; with one its depth, or its thickness.
 pub fn one_field(random: &mut Random, index: usize) -> Sample {
     let mut draft = valid(random, 3, 0);
     let (bad, place) = (index % 3, index / 2 % WALL_FIELDS);
     let wall = &mut draft.walls[bad];
+    match place {
+        field::DOWNSTAND_DEPTH | field::DOWNSTAND_THICKNESS => put_any_downstand(random, wall),
+        _ => without_downstand(wall),
+    }
     // A bad height leaves the water in range.
     wall[field::WATER_HEIGHT] = 0;
     wall[place] = next_to_range(wall, place, index.is_multiple_of(2));
@@ -269,24 +277,31 @@ fn spoil_field(random: &mut Random, wall: &mut RawWall, place: usize) -> usize {
     place
 }
 
-/// Spoils two fields of a wall, in either order, and says which comes first.
+/// Spoils two fields of a wall and says which comes first. It is spoilt last, as what it
+/// may be can hang on the other. Water is never past its range with the greatest depth
+/// of downstand there is, so that it is the least bad one beside it.
 fn spoil_two_fields(random: &mut Random, wall: &mut RawWall) -> usize {
     let one = random.below(WALL_FIELDS);
     let other = (one + 1 + random.below(WALL_FIELDS - 1)) % WALL_FIELDS;
-    spoil_field(random, wall, one).min(spoil_field(random, wall, other))
+    let (first, later) = (one.min(other), one.max(other));
+    spoil_field(random, wall, later);
+    if (first, later) == (field::WATER_HEIGHT, field::DOWNSTAND_DEPTH) {
+        wall[later] = next_to_range(wall, later, false);
+    }
+    spoil_field(random, wall, first)
 }
 
 /// Spoils a height of a wall, says which, and puts water to the crest that it
 /// makes or above it. It is the height that is bad first, whatever the water.
 fn spoil_height_and_water(random: &mut Random, wall: &mut RawWall, way: usize) -> usize {
-    let height = [field::STEM_HEIGHT, field::BASE_THICKNESS][way % 2];
-    spoil_field(random, wall, height);
+    let spoilt = [field::STEM_HEIGHT, field::BASE_THICKNESS][way % 2];
+    spoil_field(random, wall, spoilt);
     wall[field::WATER_HEIGHT] = match random.below(3) {
-        0 => crest(wall),
-        1 => crest(wall).saturating_add(1),
+        0 => height(wall),
+        1 => height(wall).saturating_add(1),
         _ => u32::MAX,
     };
-    height
+    spoilt
 }
 
 /// How many ways there are of spoiling a load.

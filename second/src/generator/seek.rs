@@ -1,16 +1,16 @@
 //! Jobs looked for until they touch what is wanted: each kind of block, each
 //! failure set and clear, and the turns of the toe and stem rules.
 
-use super::draft::{any_load, crest, typical_wall, wide_wall, Draft, DOWN};
+use super::draft::{any_load, crest, fit, typical_wall, wide_wall, Draft, DOWN};
 use super::{Due, Sample};
-use crate::job_file::field;
+use crate::job_file::{field, RawWall};
 use crate::random::Random;
 use crate::traits::of_job;
 
 /// Candidates looked at before the last one is taken as it is.
 const MOST_TRIES: usize = 3000;
 
-pub fn candidate(random: &mut Random) -> Draft {
+fn candidate(random: &mut Random) -> Draft {
     let wall = if random.once_in(2) {
         wide_wall(random)
     } else {
@@ -22,6 +22,28 @@ pub fn candidate(random: &mut Random) -> Draft {
         draft.loads.push(any_load(random, 1, &wall, most));
     }
     draft
+}
+
+/// Whether a job has the words wished, and none that stands behind `not`.
+pub fn fits(draft: &Draft, words: &[&str]) -> bool {
+    let met = of_job(&draft.job());
+    words.iter().all(|word| match word.strip_prefix("not ") {
+        Some(unwanted) => !met.contains(&unwanted),
+        None => met.contains(word),
+    })
+}
+
+/// A wall made up by chance and prepared, if it has the words wished.
+pub fn sought(
+    random: &mut Random,
+    prepare: fn(&mut Random, &mut RawWall),
+    words: &[&str],
+) -> Option<Draft> {
+    let mut draft = candidate(random);
+    prepare(random, &mut draft.walls[0]);
+    // A load may have come to stand past the end of a heel that is taken away.
+    let kept = draft.job().loads.len();
+    (kept == draft.loads.len() && fits(&draft, words)).then_some(draft)
 }
 
 /// A job that touches all the words wanted, if one turns up.
@@ -139,8 +161,8 @@ fn with_thin_base(random: &mut Random) -> Draft {
     wall[field::FCU] = random.between(20, 30);
     wall[field::TOE_SHEAR_STRESS] = 5000;
     wall[field::BASE_THICKNESS] = random.between(200, 300);
+    fit(wall);
     let top = crest(wall);
-    wall[field::WATER_HEIGHT] = wall[field::WATER_HEIGHT].min(top);
     draft.loads.retain(|load| load[1] == DOWN || load[2] <= top);
     draft
 }

@@ -1,7 +1,7 @@
 //! Jobs in which a hundredth of a mm2 of steel decides: a cage of the toe or of the stem
 //! is just what is required, a hundredth short of it, or enough though not in whole mm2.
 
-use super::draft::{crest, ends, typical_wall, wide_wall, Draft};
+use super::draft::{ends, fit, typical_wall, wide_wall, Draft};
 use super::edges::{tune_cage, worked, Part, MOST_TRIES};
 use super::lever_arm::{little_least_steel, push_stem};
 use super::{Due, Sample};
@@ -167,7 +167,7 @@ pub fn by_least(random: &mut Random, part: Part, cage: Cage) -> Option<Draft> {
     let (percentage, thickness) = factors(random, &wall, part, least)?;
     wall[field::LEAST_STEEL] = percentage;
     wall[part.thickness()] = thickness;
-    wall[field::WATER_HEIGHT] = wall[field::WATER_HEIGHT].min(crest(&wall));
+    fit(&mut wall);
     let draft = Draft::of(wall);
     let section = part.section(&draft)?;
     (section.needed <= section.least && cage.is(&section)).then_some(draft)

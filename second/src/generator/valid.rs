@@ -1,6 +1,8 @@
 //! Kinds of job that are accepted.
 
-use super::draft::{any_load, crest, ends, load_at, typical_wall, wide_wall, Draft, PLACES};
+use super::draft::{
+    any_load, ends, fit, height, load_at, put_any_downstand, typical_wall, wide_wall, Draft, PLACES,
+};
 use super::{Due, Sample};
 use crate::job_file::{field, RawWall, MOST_LOADS_A_WALL, MOST_WALLS, WALL_FIELDS};
 use crate::random::Random;
@@ -40,20 +42,29 @@ pub fn wide(random: &mut Random, _: usize) -> Sample {
     accepted(&few_walls(random, wide_wall, 200_000))
 }
 
-/// Each field in turn at its low and then at its high end.
+/// Each field in turn at its low and then at its high end. A downstand's position is at
+/// its high end where the downstand reaches the end of the base.
 pub fn field_ends(random: &mut Random, index: usize) -> Sample {
     let mut wall = typical_wall(random);
     let place = index / 2 % WALL_FIELDS;
+    if place >= field::DOWNSTAND_DEPTH {
+        put_any_downstand(random, &mut wall);
+    }
     let (low, high) = ends(&wall, place);
     wall[place] = if index.is_multiple_of(2) { low } else { high };
-    wall[field::WATER_HEIGHT] = wall[field::WATER_HEIGHT].min(crest(&wall));
+    fit(&mut wall);
     accepted(&Draft::of(wall))
 }
+
+/// Fields whose ends go by others that stand behind them.
+const SET_LAST: [usize; 2] = [field::DOWNSTAND_POSITION, field::WATER_HEIGHT];
 
 /// Every field at one of its ends; the first two samples all low, all high.
 pub fn all_ends(random: &mut Random, index: usize) -> Sample {
     let mut wall = wide_wall(random);
-    for place in 0..WALL_FIELDS {
+    wall[field::DOWNSTAND_POSITION] = 0;
+    let first = (0..WALL_FIELDS).filter(|place| !SET_LAST.contains(place));
+    for place in first.chain(SET_LAST) {
         let high = match index {
             0 => false,
             1 => true,
@@ -62,8 +73,7 @@ pub fn all_ends(random: &mut Random, index: usize) -> Sample {
         let (least, most) = ends(&wall, place);
         wall[place] = if high { most } else { least };
     }
-    // The crest may have come down after the water was set.
-    wall[field::WATER_HEIGHT] = wall[field::WATER_HEIGHT].min(crest(&wall));
+    fit(&mut wall);
     let mut draft = Draft::of(wall);
     let places = random.below(MOST_LOADS_A_WALL + 1);
     for place in PLACES.iter().take(places) {
@@ -80,16 +90,16 @@ pub fn all_ends(random: &mut Random, index: usize) -> Sample {
 pub fn water(random: &mut Random, index: usize) -> Sample {
     let mut draft = few_walls(random, typical_wall, 20_000);
     for (offset, wall) in draft.walls.iter_mut().enumerate() {
-        let top = wall[field::BASE_THICKNESS];
+        let top = wall[field::DOWNSTAND_DEPTH] + wall[field::BASE_THICKNESS];
         wall[field::WATER_HEIGHT] = match (index + offset) % 8 {
             0 => 0,
             1 => random.between(1, top - 1),
             2 => top - 1,
             3 => top,
             4 => top + 1,
-            5 => random.between(top + 1, crest(wall) - 1),
-            6 => crest(wall) - 1,
-            _ => crest(wall),
+            5 => random.between(top + 1, height(wall) - 1),
+            6 => height(wall) - 1,
+            _ => height(wall),
         };
     }
     accepted(&draft)
@@ -165,6 +175,7 @@ pub fn odd_stem(random: &mut Random, _: usize) -> Sample {
 pub fn no_toe(random: &mut Random, _: usize) -> Sample {
     let mut wall = typical_wall(random);
     wall[field::TOE] = 0;
+    fit(&mut wall);
     let mut draft = Draft::of(wall);
     load_last_wall(random, &mut draft, 2, 50_000);
     accepted(&draft)
@@ -177,6 +188,7 @@ pub fn no_heel(random: &mut Random, index: usize) -> Sample {
     if index % 4 == 3 {
         wall[field::TOE] = 0;
     }
+    fit(&mut wall);
     let mut draft = Draft::of(wall);
     load_last_wall(random, &mut draft, 2, 50_000);
     accepted(&draft)

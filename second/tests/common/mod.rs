@@ -11,17 +11,19 @@ use second::Whole;
 
 pub const SEED: u64 = 20;
 
-/// Case A of document 01, "The sheet line", field by field; its heel has the stem's cage.
+/// Case A of document 01, "The sheet line", field by field; its heel has the stem's cage,
+/// and it has no downstand.
 pub const CASE_A: RawWall = [
     0, 3000, 300, 500, 1500, 300, 0, 0, 0, 2400, 2400, 1800, 2000, 1800, 333, 500, 3000, 500, 150,
-    1000, 35, 500, 13, 40, 12, 200, 40, 16, 150, 550, 550, 40, 16, 150, 550,
+    1000, 35, 500, 13, 40, 12, 200, 40, 16, 150, 550, 550, 40, 16, 150, 550, 0, 0, 0,
 ];
 
 pub const CASE_A_LINE: &str = "1 000 134160 43627 0 767102100 88312 28349 173078 0 71688 30840740 39000 80700 92700000 89165 75042 88187024 84824\n";
 
 /// Lowest and highest values, as documents 01 and 02 print them, field by field; of the
-/// water as far as case A's heights let it.
-pub const ENDS: [(u32, u32); 35] = [
+/// water as far as case A's heights let it, and of a downstand's position and thickness as
+/// case A may have them, which has no depth of one.
+pub const ENDS: [(u32, u32); 38] = [
     (0, 1),
     (500, 8000),
     (200, 1500),
@@ -57,15 +59,18 @@ pub const ENDS: [(u32, u32); 35] = [
     (8, 40),
     (50, 500),
     (1, 5000),
+    (0, 1000),
+    (0, 0),
+    (0, 0),
 ];
 
-/// The 152 bytes of case A, from the header document 01 prints with request #103's
-/// offset and length.
+/// The 164 bytes of case A, from the header document 01 prints with request #107's
+/// edition, offset and length.
 pub fn case_a_bytes() -> Vec<u8> {
-    let header: [u16; 6] = [1, 1, 12, 0, 152, 152];
+    let header: [u16; 6] = [2, 1, 12, 0, 164, 164];
     let mut bytes: Vec<u8> = header.iter().flat_map(|n| n.to_le_bytes()).collect();
     bytes.extend(CASE_A.iter().flat_map(|n| n.to_le_bytes()));
-    assert_eq!(bytes.len(), 152);
+    assert_eq!(bytes.len(), 164);
     bytes
 }
 
@@ -94,14 +99,26 @@ pub fn accepted_jobs(count: usize) -> Vec<(String, Job)> {
     let jobs: Vec<(String, Job)> = samples
         .into_iter()
         .filter(|(_, sample)| sample.due == Due::Accepted)
-        .map(|(name, sample)| {
-            let job = second::answers::accept(&sample.bytes);
-            let job = job.unwrap_or_else(|refusal| panic!("{name}: {refusal}"));
-            (name, job)
-        })
+        .map(taken_in)
         .collect();
     assert!(jobs.len() > 10 * count, "only {} jobs accepted", jobs.len());
     jobs
+}
+
+/// So many jobs for the downstand, all accepted.
+pub fn downstand_jobs(count: usize) -> Vec<(String, Job)> {
+    let kind = KINDS.iter().position(|(name, _)| *name == "downstand");
+    let numbered = (0..count).map(|index| {
+        let sample = sample(SEED, kind.unwrap(), index);
+        (format!("downstand-{}", index + 1), sample)
+    });
+    numbered.map(taken_in).collect()
+}
+
+fn taken_in((name, sample): (String, Sample)) -> (String, Job) {
+    let job = second::answers::accept(&sample.bytes);
+    let job = job.unwrap_or_else(|refusal| panic!("{name}: {refusal}"));
+    (name, job)
 }
 
 /// What the ground bears under a toe by document 01 alone, before request #105: for
