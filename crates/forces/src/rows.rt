@@ -38,20 +38,12 @@ fn signed(n: u64) -> i64
     n as i64
 }
 
-// A force down times six times its distance from the toe.
-fn moment(force: u64, sixfold: u64) -> i64
-    requires { ⌜ (force ≤ 3000000) × (sixfold ≤ 100000) ⌝ }
-    ensures { λ r. ⌜ r ≡ pos (force * sixfold) ⌝ }
-{
-    signed(force * sixfold)
-}
-
 // A force down, with six times its distance from the toe.
 pub fn down(force: u64, sixfold: u64) -> Row
     requires { ⌜ (force ≤ 3000000) × (sixfold ≤ 100000) ⌝ }
     ensures { λ r. ⌜ r ≡ pos force ∷ pos 0 ∷ pos (force * sixfold) ∷ [] ⌝ }
 {
-    [signed(force), 0, moment(force, sixfold)]
+    [signed(force), 0, signed(force * sixfold)]
 }
 
 // A horizontal force, with six times its height above a foot, and six times how deep the foot lies below the base's underside.

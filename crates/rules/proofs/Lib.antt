@@ -18,7 +18,6 @@ pub mod HeelBearing
 pub mod Hundredths
 pub mod Idle
 pub mod Lever
-pub mod Levers
 pub mod Lines
 pub mod LoadsOfWalls
 pub mod LongInput
@@ -35,5 +34,6 @@ pub mod Rewritten
 pub mod Roundings
 pub mod Sections
 pub mod Sizes
+pub mod Statics
 pub mod ToeBearing
 pub mod Triangles

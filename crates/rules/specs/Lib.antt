@@ -1,6 +1,6 @@
 -- Document 01, a file for each of its headings that has rules, in its order; then the drawing. What document 01 has no word for stands in `Beyond` alone. Behind it a file for each
 -- request of document 02 that has landed and has rules of its own: `WrittenFile` is #101. A request that changes rules of document 01 stands where they stand: #102 in `Answered`, #105 and #106 in `ToeAndStem`, #103 in `JobFile`,
--- `Bearing`, `ToeAndStem` and `SheetLine`.
+-- `Bearing`, `ToeAndStem` and `SheetLine`, #107 in `JobFile`, `Forces` and `Bearing`.
 --
 -- How to read them. A name with arguments behind it is applied to them: `stemWeight wall`. The line above a definition gives the types of its arguments and, behind
 -- the last arrow, of its result; `abbrev` and `unfoldable` say only how proofs may open it. A definition of several lines goes by the cases of an argument. `let x = a in b` is b with a for x, and `λ x. b` a function of x.

@@ -1,4 +1,4 @@
--- `forces::pushes::water_push` meets its contract. A height that is at most 9500 is squared.
+-- `forces::pushes::water_push` meets its contract. A height no greater than that of a wall is squared.
 use native.Mathlib.Nat.{mul-le-mul}
 use native.Mathlib.Omega.{arith}
 use borrow.Author.Needs.{needs}
