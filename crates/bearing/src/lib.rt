@@ -1,4 +1,6 @@
 // Document 01, "The bearing block": the blocks that bear a wall under its loads, in service and factored.
+#![tactic(auto)]
+
 mod block;
 
 ghost use Rattle.std.specs.Prelude.{◌≡◌};

@@ -1,10 +1,12 @@
 // Prints the sheets of the job files that its arguments name, one behind the other, and at last how many of them were taken apart and written again
 // byte for byte. Where a file can't be read, standard error says why, and in place of its sheet stands a line that no sheet has. Of a file longer than the
 // buffer the start is enough (`rules` `LongInput.printed_read`).
+#![tactic(auto)]
+
 use libc::{STDERR_FILENO, STDOUT_FILENO};
 
 // What came of a file: whether standard output took all that was printed of it, and whether it was written again byte for byte.
-#[derive(Drop)]
+#[derive(Clone, Copy)]
 struct Outcome {
     is_printed: bool,
     is_same: bool,

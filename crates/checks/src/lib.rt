@@ -1,4 +1,6 @@
 // Document 01, "The sheet line": a wall's failures, in two bytes. A check's bit is set by a shift and an or.
+#![tactic(auto)]
+
 ghost use Rattle.std.specs.Prelude.{◌≡◌, ◌||◌, cond, ◌+◌, ◌*◌, ◌<◌, ◌^◌, max, ltb};
 ghost use Rattle.std.specs.Int.Signed.{lt_z};
 ghost use Rattle.rules.specs.JobFile.{allowable_bearing};

@@ -1,5 +1,7 @@
 // The desk's work, a command for each thing that it does; without one it says what they are. Of an input that is longer than the buffer the start is
 // enough, since no job is as long (`rules` `Rewritten.rewritten_read`).
+#![tactic(auto)]
+
 mod commands;
 
 use commands::Command;

@@ -54,7 +54,7 @@ all_on_stem wall top (load ∷ rest) all =
 
 -- loads that fit their wall fit it as the stem has them
 pub stem_fit : (wall : Wall) (top : ℕ) (loads : List Load) → Fit wall loads → Fit wall (map (on_stem top) loads)
-stem_fit wall top loads f = record { wall_fits_lem = f.wall_fits; loads_fit = all_on_stem wall top loads f.loads_fit; few = rw length-map f.few }
+stem_fit wall top loads f = record { wall_fits = f.wall_fits; loads_fit = all_on_stem wall top loads f.loads_fit; few = rw length-map f.few }
 
 -- ---- the sums
 

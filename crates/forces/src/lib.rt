@@ -1,5 +1,7 @@
 // Document 01, "Forces" and "Toe and stem": the component tables of a wall under its loads, and all that they give: the totals in service and factored,
 // what holds the wall against sliding, what acts on its stem, and what fills its heel.
+#![tactic(auto)]
+
 mod pushes;
 mod rows;
 mod sliding;

@@ -1,23 +1,24 @@
 -- Document 01, "How strictly it is promised": no second answer fits, of each public entry.
 use Rattle.whole.proofs.OnlyOne.{Once, agree, by_equation, lent, past, also}
+use Rattle.job.specs.contracts as contracts
 use Rattle.job.proofs as job
 
-pub first_refusal_lem : Once job.first_refusal.ended job.first_refusal.Reads.Asked job.first_refusal.Reads.Learnt
+pub first_refusal_lem : Once contracts.first_refusal.ended job.first_refusal.Reads.Asked job.first_refusal.Reads.Learnt
 first_refusal_lem = (λ _ _. tt, λ _ _ _ _ _ _. by_equation)
 
-pub wall_count_lem : Once job.wall_count.ended job.wall_count.Reads.Asked job.wall_count.Reads.Learnt
+pub wall_count_lem : Once contracts.wall_count.ended job.wall_count.Reads.Asked job.wall_count.Reads.Learnt
 wall_count_lem = (λ _ _. tt, λ _ _ _ _ _ _. by_equation)
 
-pub wall_at_lem : Once job.wall_at.ended job.wall_at.Reads.Asked job.wall_at.Reads.Learnt
+pub wall_at_lem : Once contracts.wall_at.ended job.wall_at.Reads.Asked job.wall_at.Reads.Learnt
 wall_at_lem = (λ _ _. tt, λ _ _ _ _ _ _. by_equation)
 
-pub places : Once job.places.ended job.places.Reads.Asked job.places.Reads.Learnt
+pub places : Once contracts.places.ended job.places.Reads.Asked job.places.Reads.Learnt
 places = (λ _ _. tt, λ _ _ _ _ _ _. by_equation)
 
-pub loads_at_lem : Once job.loads_at.ended job.loads_at.Reads.Asked job.loads_at.Reads.Learnt
+pub loads_at_lem : Once contracts.loads_at.ended job.loads_at.Reads.Asked job.loads_at.Reads.Learnt
 loads_at_lem = (λ _ _. tt, λ _ _ _ _ _ _. by_equation)
 
-pub take_apart : Once job.take_apart.ended job.take_apart.Reads.Asked job.take_apart.Reads.Learnt
+pub take_apart : Once contracts.take_apart.ended job.take_apart.Reads.Asked job.take_apart.Reads.Learnt
 take_apart = (
   λ _ _. tt,
   λ _ _ _ _ _ _ is its.

@@ -1,4 +1,6 @@
 // A job file taken apart, and its first refusal: any bytes have walls, loads of each wall, and one answer.
+#![tactic(auto)]
+
 pub use record::MOST_WALLS;
 use record::{
     ENTRY_FIELDS, FIELDS, LOAD_FIELDS, Loads, MOST_LOADS, MOST_LOADS_ON_WALL, WALL_NUMBER, Wall,

@@ -1,16 +1,18 @@
 // Words as a person keys them in behind a command: a number, or an angle in degrees.
+#![tactic(auto)]
+
 ghost use Rattle.std.specs.Prelude.{◌≡◌, ◌≤◌, min};
 ghost use Rattle.keyed.specs.Keyed.{is_digit, beyond, digits_behind, asked_for, has_point, angle_in, angle_by, angle_of};
 
 // The number that a word asks for.
-#[derive(Drop)]
+#[derive(Clone, Copy)]
 pub enum Asked {
     Number(u32),
     NoNumber,
 }
 
 // The angle that a word gives.
-#[derive(Drop)]
+#[derive(Clone, Copy)]
 pub enum Angle {
     // in tenths of a degree
     Tenths(u16),
@@ -18,7 +20,7 @@ pub enum Angle {
 }
 
 // What the digits of a word make.
-#[derive(Drop)]
+#[derive(Clone, Copy)]
 enum Digits {
     Value(u64),
     NoDigits,

@@ -1,5 +1,7 @@
 // The sheet for C: its numbers, its text and a wall's drawing, a job written and taken apart, with one number for what is answered, and what the failures of
 // a line say of a check. Any bytes are a job, any numbers are records, and any buffer may be lent.
+#![tactic(auto)]
+
 ghost use Rattle.std.specs.Prelude.{[], ◌∷◌, ◌≡◌, ◌≤◌, ◌<◌, ◌^◌, length};
 ghost use Rattle.rules.specs.Beyond.{Prints, onto, shape_figures, figures};
 ghost use Rattle.rules.specs.SheetLine.{checks};

@@ -1,4 +1,6 @@
 // Document 01, "The job file": is a wall, is a load within range? And what is answered of one wall with its loads.
+#![tactic(auto)]
+
 ghost use Rattle.std.specs.Prelude.{◌≡◌, ◌<◌, ◌^◌, get_or};
 ghost use Rattle.rules.specs.JobFile.{Wall, base_length, crest_height, wall_height, bars, among, within, first_bad_field, load_of, reach, load_fits};
 ghost use Rattle.rules.specs.Answered.{wall_answer};
@@ -228,7 +230,7 @@ fn is_bar(n: u32) -> bool
 }
 
 // What a wall's ranges go by: its height, its base's length, and the depth and position of its downstand.
-#[derive(Drop)]
+#[derive(Clone, Copy)]
 struct Measures {
     height: u64,
     length: u64,

@@ -1,4 +1,6 @@
 // Document 01, "What is answered": what an answer says, its number and its place; and refusals in the order of their tests.
+#![tactic(auto)]
+
 ghost use Rattle.std.specs.Prelude.{◌≡◌};
 ghost use Rattle.rules.specs.declared.Answer.TheVariants.{WallOutOfRange};
 ghost use Rattle.rules.specs.Answered.{number, place, is_worked, refused_if, ◌or_else◌};

@@ -144,50 +144,50 @@ downstand_within wall along under = go (downstand_position wall) (downstand_thic
 
 -- the fields of a wall that its forces read, each in its range
 pub record WallWithin (wall : Wall) : Type 0 where
-  pub stem_height_lem : Ranged wall 2
-  pub stem_thickness_lem : Ranged wall 3
-  pub toe_length_lem : Ranged wall 4
-  pub heel_length_lem : Ranged wall 5
-  pub base_thickness_lem : Ranged wall 6
+  pub stem_height : Ranged wall 2
+  pub stem_thickness : Ranged wall 3
+  pub toe_length : Ranged wall 4
+  pub heel_length : Ranged wall 5
+  pub base_thickness : Ranged wall 6
   pub cover : Ranged wall 7
   pub excavation : Ranged wall 8
   pub water : Ranged wall 9
-  pub stem_density_lem : Ranged wall 10
-  pub base_density_lem : Ranged wall 11
-  pub moist_density_lem : Ranged wall 12
-  pub saturated_density_lem : Ranged wall 13
-  pub soil_density_lem : Ranged wall 14
+  pub stem_density : Ranged wall 10
+  pub base_density : Ranged wall 11
+  pub moist_density : Ranged wall 12
+  pub saturated_density : Ranged wall 13
+  pub soil_density : Ranged wall 14
   pub active : Ranged wall 15
   pub rest : Ranged wall 16
   pub passive : Ranged wall 17
   pub tangent : Ranged wall 18
   pub surcharge : Ranged wall 20
-  pub downstand_depth_lem : Ranged wall 36
+  pub downstand_depth : Ranged wall 36
   pub downstand : Downstand wall
 
 pub wall_within : (wall : Wall) → T (wall_fits wall) → WallWithin wall
 wall_within wall fits =
     let of = ranged wall fits in
     record {
-      stem_height_lem = of 2 tt;
-      stem_thickness_lem = of 3 tt;
-      toe_length_lem = of 4 tt;
-      heel_length_lem = of 5 tt;
-      base_thickness_lem = of 6 tt;
+      stem_height = of 2 tt;
+      stem_thickness = of 3 tt;
+      toe_length = of 4 tt;
+      heel_length = of 5 tt;
+      base_thickness = of 6 tt;
       cover = of 7 tt;
       excavation = of 8 tt;
       water = of 9 tt;
-      stem_density_lem = of 10 tt;
-      base_density_lem = of 11 tt;
-      moist_density_lem = of 12 tt;
-      saturated_density_lem = of 13 tt;
-      soil_density_lem = of 14 tt;
+      stem_density = of 10 tt;
+      base_density = of 11 tt;
+      moist_density = of 12 tt;
+      saturated_density = of 13 tt;
+      soil_density = of 14 tt;
       active = of 15 tt;
       rest = of 16 tt;
       passive = of 17 tt;
       tangent = of 18 tt;
       surcharge = of 20 tt;
-      downstand_depth_lem = of 36 tt;
+      downstand_depth = of 36 tt;
       downstand = downstand_within wall (of 37 tt) (of 38 tt);
     }
 

@@ -5,7 +5,7 @@ use Prim.Native.Nat.{ℕ, zero, suc, ◌+◌, ◌*◌, ◌<◌, ◌^◌}
 use native.Mathlib.Nat.{mul-pos}
 use native.Mathlib.Omega.{arith}
 use lib.Dec.{ltb, eqb}
-use lib.Ieee.{Float, inf, fin, binary64, prec, emax, low, up, down, unlike, odd, units, round, div, of_int, is_nan}
+use lib.Ieee.{Float, nan, inf, fin, binary64, prec, emax, low, up, down, unlike, odd, units, round, div, of_int, is_nan}
 use lib.Ieee.Back.{round_whole}
 use lib.Ieee.Bits.{cond_no}
 use lib.Ieee.Exact.{HasValue}
@@ -47,6 +47,10 @@ divides (fin s' m e) (fin t' n d) s t a b some v w =
     let out = cancelled (m * up e) (n * up d) (down e) (down d) a b (down_pos e) (down_pos d) some v.1 w.1 in
     finite s' t' m n e d (first_pos n (up d) (first_pos (n * up d) (down e) out.0))
     ∙ rw (v.0, w.0) (round_same binary64 (unlike s t) (m * up e * down d) (n * up d * down e) a b out.0 some out.1)
+divides nan y s t a b some v w = elim v [ ]
+divides (inf _) y s t a b some v w = elim v [ ]
+divides (fin s' m e) nan s t a b some v w = elim w [ ]
+divides (fin s' m e) (inf _) s t a b some v w = elim w [ ]
 
 -- what a drawing divides, rounded once
 pub rounded_once : (a b : ℤ) → Small (nat_abs a) → Small (nat_abs b) → pos 0 <ℤ b

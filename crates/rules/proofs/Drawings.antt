@@ -149,7 +149,7 @@ shape_numbers t l b Nothing f = tt
 drawn_numbers : (wall : Wall) (loads : List Load) (d : Drawn) → Figured wall loads d → All IsNumber (figures d)
 unfolding figures
 drawn_numbers wall loads d f =
-    (division_number f.R, (division_number f.H, (division_number f.distance, shape_numbers _ _ _ _ f.shape)))
+    (division_number f.R, (division_number f.H, (division_number f.distance, shape_numbers (service wall loads) (pos (base_length wall)) (service_block wall loads) d.shape f.shape)))
 
 -- a refusal's figures
 undrawn_numbers : (refusal : Answer) → All IsNumber (figures (undrawn refusal))

@@ -24,7 +24,7 @@ abbrev pub AllFit : Wall → List Load → Type 0
 AllFit wall loads = All (Suits wall) loads
 
 pub record Fit (wall : Wall) (loads : List Load) : Type 0 where
-  pub wall_fits_lem : T (wall_fits wall)
+  pub wall_fits : T (wall_fits wall)
   pub loads_fit : AllFit wall loads
   pub few : length loads ≤ most_loads_on_wall
 
@@ -88,7 +88,7 @@ module _ (wall : Wall) where
   fit loads t =
       let h = first_worked (first_bad_wall 1 (wall ∷ [])) (first_bad_load (wall ∷ []) [] 1 (map alone loads)) t in
       record {
-        wall_fits_lem = (past_wall 1 wall [] h.0).0;
+        wall_fits = (past_wall 1 wall [] h.0).0;
         loads_fit = all_passed [] 1 loads h.1;
         few = rw loads_alone at (few_from 1 (wall ∷ []) [] 1 (map alone loads) h.1 (omega arith));
       }
@@ -106,7 +106,7 @@ module _ (wall : Wall) where
 
   -- the wall fits with any that each fit it, and are not too many
   others : {loads these : List Load} → Fit wall loads → AllFit wall these → length these ≤ most_loads_on_wall → Fit wall these
-  others f each less = record { wall_fits_lem = f.wall_fits; loads_fit = each; few = less }
+  others f each less = record { wall_fits = f.wall_fits; loads_fit = each; few = less }
 
   -- what fits joined fits in its parts, and in either order
   pub joined : (first second : List Load) → T (fits wall (first ++ second))
@@ -147,4 +147,4 @@ pub wall_of_file : (file : File) → T (accepted file) → (i : ℕ) → i < wal
 wall_of_file file t i h =
     let wall = wall_at file i in
     let loads = loads_on (suc i) (entries file) in
-    fits_of wall loads (record { wall_fits_lem = walls_fit file t i h; loads_fit = all_of (Suits wall) [] loads (loads_fit file t i h); few = few_loads file t (suc i) })
+    fits_of wall loads (record { wall_fits = walls_fit file t i h; loads_fit = all_of (Suits wall) [] loads (loads_fit file t i h); few = few_loads file t (suc i) })

@@ -65,7 +65,7 @@ record WorkedOut : Type 0 where
   one : number_at after 0 0 ≡ pos 1
   low : number_at after 0 2 ≡ pos 99960
   high : number_at after 1 2 ≡ pos 134160
-  case_a_lem : number_at (joined (sheet case_a)) 0 2 ≡ pos 134160
+  case_a_number : number_at (joined (sheet case_a)) 0 2 ≡ pos 134160
   low_printed : leading (printed two_walls) ≡ digit 9
   case_a_printed : leading (printed case_a) ≡ digit 1
   case_a_bytes : T (are_bytes case_a)
@@ -73,7 +73,7 @@ record WorkedOut : Type 0 where
 worked_out : WorkedOut
 unfolding two_walls u16_at u32_at u32s_at entries_at wall_at records_from walls entries loads_on base_length crest_height wall_height among within first_outside first_bad_field wall_fits counts_fit offsets_fit length_fits wall_answer first_bad_wall first_bad_load first_refusal saturated_height stem_weight base_weight downstand_weight saturated_weight moist_weight surcharge_weight weight_rows push_rows load_table table column_sum totals service worked_wall numbers_by line lines_from sheet joined answer_to buffer_after digits decimal signed_decimal hex_digits line_rest line_text printed rounded_nearest sum_of
 worked_out =
-    record { answered = refl; passes = tt; bytes = tt; two = refl; one = refl; low = refl; high = refl; case_a_lem = refl; low_printed = refl; case_a_printed = refl; case_a_bytes = tt }
+    record { answered = refl; passes = tt; bytes = tt; two = refl; one = refl; low = refl; high = refl; case_a_number = refl; low_printed = refl; case_a_printed = refl; case_a_bytes = tt }
 
 -- two numbers that are the same are of one amount
 amount : {a b : ℤ} {m n : ℕ} → a ≡ b → a ≡ pos m → b ≡ pos n → m ≡ n
@@ -166,7 +166,7 @@ abbrev pub HasCaseA : File → List ℤ → List ℤ → Type 0
 HasCaseA file before after = (place : ℕ) → place < line_numbers → number_at after 0 place ≡ number_at (joined (sheet case_a)) 0 place
 
 pub case_a_numbers_for_all : NoVersion HasCaseA
-case_a_numbers_for_all = told HasCaseA (λ same. omega (arith, amount (same 2 (omega arith)) worked_out.low worked_out.case_a))
+case_a_numbers_for_all = told HasCaseA (λ same. omega (arith, amount (same 2 (omega arith)) worked_out.low worked_out.case_a_number))
 
 -- it writes nothing
 abbrev pub WritesNothing : File → List ℤ → List ℤ → Type 0

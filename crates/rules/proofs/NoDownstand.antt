@@ -360,8 +360,8 @@ kind_same R M6 l less =
 pub record AsBefore (wall : Wall) (loads : List Load) : Type 0 where
   pub service : service wall loads ≡ service_before wall loads
   pub factored : factored wall loads ≡ factored_before wall loads
-  pub service_block_lem : service_block wall loads ≡ service_block_before wall loads
-  pub factored_block_lem : factored_block wall loads ≡ factored_block_before wall loads
+  pub service_block : service_block wall loads ≡ service_block_before wall loads
+  pub factored_block : factored_block wall loads ≡ factored_block_before wall loads
   pub line : (n : ℕ) → line n wall loads ≡ line_before wall loads n
 
 module _ (wall : Wall) (loads : List Load) (fit : Fit wall loads) (none-there : downstand_depth wall ≡ 0) where
@@ -398,8 +398,8 @@ module _ (wall : Wall) (loads : List Load) (fit : Fit wall loads) (none-there : 
       record {
         service = service_same wall none-there loads;
         factored = factored_same wall none-there loads;
-        service_block_lem = service_block_same;
-        factored_block_lem = factored_block_same;
+        service_block = service_block_same;
+        factored_block = factored_block_same;
         line = line_same;
       }
 

@@ -1,5 +1,6 @@
 // Document 01 as definitions: `specs/` has a file for each of its headings. Here stand the types that its answers have, the one of its table of
 // ranges, and the constants that more than one crate reads.
+#![tactic(auto)]
 
 // The diameters that a bar can have, in mm.
 pub const BARS: [u32; 8] = [8, 10, 12, 16, 20, 25, 32, 40];
@@ -8,7 +9,7 @@ pub const BARS: [u32; 8] = [8, 10, 12, 16, 20, 25, 32, 40];
 pub const PER_VOLUME: u64 = 100000;
 
 // The range of a wall's field.
-#[derive(Drop)]
+#[derive(Clone, Copy)]
 pub enum Range {
     // from a number to another, both included
     Between(u32, u32),
@@ -23,7 +24,7 @@ pub enum Range {
 }
 
 // What is answered: a case for each row of the table of refusals, in the order of their tests, and one for a job that is worked.
-#[derive(Drop)]
+#[derive(Clone, Copy)]
 pub enum Answer {
     Worked,
     TooShort,
@@ -46,14 +47,14 @@ pub enum Answer {
 }
 
 // What is answered where a job file is written: the answer, and how many bytes were written; a refusal writes none.
-#[derive(Drop)]
+#[derive(Clone, Copy)]
 pub struct Written {
     pub answer: Answer,
     pub bytes: usize,
 }
 
 // What is answered where a job file is taken apart: the answer, and how many numbers of each lent buffer are the file's records; a refusal takes none.
-#[derive(Drop)]
+#[derive(Clone, Copy)]
 pub struct Taken {
     pub answer: Answer,
     pub walls: usize,
@@ -61,7 +62,7 @@ pub struct Taken {
 }
 
 // The totals of a wall: R and H in N, and Mrest, Mot and M6 in sixths of a N mm; where they are factored, in tenths of these.
-#[derive(Drop)]
+#[derive(Clone, Copy)]
 pub struct Totals {
     pub R: i64,
     pub H: i64,
@@ -72,7 +73,7 @@ pub struct Totals {
 
 // What holds a wall against sliding: passive force and friction in N, whether an unpropped wall slides all the same, and what a prop has to
 // take of a propped one.
-#[derive(Drop)]
+#[derive(Clone, Copy)]
 pub struct Sliding {
     pub passive: u64,
     pub friction: u64,
@@ -82,7 +83,7 @@ pub struct Sliding {
 
 // The forces on a wall under its loads: the answer, the totals in service and factored, what holds the wall, what acts on its stem, and the factored fill
 // and surcharge on its heel in tenths of a N. A refusal has 0 for each figure.
-#[derive(Drop)]
+#[derive(Clone, Copy)]
 pub struct Forces {
     pub answer: Answer,
     pub service: Totals,
@@ -93,14 +94,14 @@ pub struct Forces {
 }
 
 // A fraction, which is not reduced.
-#[derive(Drop)]
+#[derive(Clone, Copy)]
 pub struct Fraction {
     pub over: i64,
     pub under: i64,
 }
 
 // How a straight-line block bears on the base: on all of it, as a triangle from one end, or not at all.
-#[derive(Drop)]
+#[derive(Clone, Copy)]
 pub enum Kind {
     Full,
     FromToe,
@@ -110,7 +111,7 @@ pub enum Kind {
 
 // A bearing block: its pressure at the toe and at the heel in kN/m2, or in tenths of that where it is factored, and the length of base in
 // contact in mm.
-#[derive(Drop)]
+#[derive(Clone, Copy)]
 pub struct Block {
     pub kind: Kind,
     pub toe: Fraction,
@@ -119,7 +120,7 @@ pub struct Block {
 }
 
 // A block as it is given, and the pressures reported of it at the toe and at the heel, in N/m2.
-#[derive(Drop)]
+#[derive(Clone, Copy)]
 pub struct Pressed {
     pub block: Block,
     pub toe: u64,
@@ -127,7 +128,7 @@ pub struct Pressed {
 }
 
 // The forces on a wall, and the blocks that bear them.
-#[derive(Drop)]
+#[derive(Clone, Copy)]
 pub struct Borne {
     pub forces: Forces,
     pub service: Pressed,
@@ -135,7 +136,7 @@ pub struct Borne {
 }
 
 // The bars of a section in mm, and the concrete's shear stress beside them in 1/1000 N/mm2.
-#[derive(Drop)]
+#[derive(Clone, Copy)]
 pub struct Cage {
     pub cover: u64,
     pub bar: u64,
@@ -144,7 +145,7 @@ pub struct Cage {
 }
 
 // A metre of toe, stem or heel as the steel sees it: its thickness in mm, its cage, strengths in N/mm2, and the least steel in hundredths of a percent.
-#[derive(Drop)]
+#[derive(Clone, Copy)]
 pub struct Section {
     pub thickness: u64,
     pub cage: Cage,
@@ -154,21 +155,21 @@ pub struct Section {
 }
 
 // What acts on a section: shear in N and moment in N mm, on a metre's run.
-#[derive(Drop)]
+#[derive(Clone, Copy)]
 pub struct Action {
     pub shear: u64,
     pub moment: u64,
 }
 
 // The steel that a section requires in hundredths of mm2, and whether it fails: less is provided, or compression steel would be needed.
-#[derive(Drop)]
+#[derive(Clone, Copy)]
 pub struct Steel {
     pub required: u64,
     pub fails: bool,
 }
 
 // A toe, a stem or a heel: what acts on it, its steel, and whether it fails in shear.
-#[derive(Drop)]
+#[derive(Clone, Copy)]
 pub struct Member {
     pub action: Action,
     pub steel: Steel,
@@ -176,14 +177,14 @@ pub struct Member {
 }
 
 // What is answered of any section: what it makes of the action on it, or that it can't be worked.
-#[derive(Drop)]
+#[derive(Clone, Copy)]
 pub enum Verdict {
     Judged(Member),
     Unworkable,
 }
 
 // A wall that is worked: its totals in service, what holds it, the blocks that bear it, its toe, its stem and its heel.
-#[derive(Drop)]
+#[derive(Clone, Copy)]
 pub struct WorkedWall {
     pub totals: Totals,
     pub sliding: Sliding,
@@ -195,7 +196,7 @@ pub struct WorkedWall {
 }
 
 // The checks, in the order of their bits.
-#[derive(Drop)]
+#[derive(Clone, Copy)]
 pub enum Check {
     Slides,
     Overturns,
@@ -214,21 +215,21 @@ pub const LINE: usize = 19;
 pub type LineNumbers = [i64; LINE];
 
 // A wall's line, in the order of the sheet, or the refusal and nothing but zeros.
-#[derive(Drop)]
+#[derive(Clone, Copy)]
 pub struct WallLine {
     pub answer: Answer,
     pub numbers: LineNumbers,
 }
 
 // What is answered of an angle: its sine in millionths; a refusal has 0.
-#[derive(Drop)]
+#[derive(Clone, Copy)]
 pub struct Sine {
     pub answer: Answer,
     pub millionths: u32,
 }
 
 // What is answered of a soil's angle: the coefficients at rest and active, K0 and Ka, in thousandths; a refusal has 0 for both.
-#[derive(Drop)]
+#[derive(Clone, Copy)]
 pub struct Coefficients {
     pub answer: Answer,
     pub rest: u32,
@@ -236,7 +237,7 @@ pub struct Coefficients {
 }
 
 // What the drawing office draws of a wall's forces in service: R and H, in kN, and how far from the toe R acts, in mm.
-#[derive(Drop)]
+#[derive(Clone, Copy)]
 pub struct Drawing {
     pub R: f64,
     pub H: f64,
@@ -244,7 +245,7 @@ pub struct Drawing {
 }
 
 // The service block as the drawing office takes it: pressures in kN/m2, lengths in mm.
-#[derive(Drop)]
+#[derive(Clone, Copy)]
 pub enum Shape {
     // the pressure at the toe, and at the heel
     Whole(f64, f64),
@@ -256,7 +257,7 @@ pub enum Shape {
 }
 
 // What is answered where a drawing is asked for.
-#[derive(Drop)]
+#[derive(Clone, Copy)]
 pub struct Drawn {
     pub answer: Answer,
     pub drawing: Drawing,

@@ -1,4 +1,6 @@
 // Document 01, "Toe and stem": a wall's sections, and what a section makes of the action on it, by rules that are one for every section.
+#![tactic(auto)]
+
 pub mod of_wall;
 mod points;
 mod shear;

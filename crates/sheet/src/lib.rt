@@ -1,5 +1,7 @@
 // Document 01 for a whole job file: the numbers of its sheet, the text that is printed of it, and the drawing of a wall; and the file written again. Each
 // entry takes any bytes, and a refusal changes nothing that was lent but for its own text.
+#![tactic(auto)]
+
 mod drawn;
 mod figures;
 

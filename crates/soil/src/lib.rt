@@ -1,5 +1,7 @@
 // The sines of angles from 0.0 to 90.0 degrees by tenths, and the coefficients of earth pressure that the angle of a soil gives. An angle is a number of
 // tenths of a degree.
+#![tactic(auto)]
+
 mod table;
 
 ghost use Rattle.std.specs.Prelude.{◌≡◌, ◌≤◌};

@@ -1,5 +1,7 @@
 // What is printed, as bytes at the start of a lent buffer: a wall's line, a refusal, a drawing, a soil's coefficients. A buffer without room for the longest line is left as it
 // is, and 0 of its bytes are used.
+#![tactic(auto)]
+
 mod coefficients;
 mod figures;
 mod letters;

@@ -1,4 +1,6 @@
 // Document 01, "The sheet line": one wall under its loads, worked to the nineteen numbers of its line.
+#![tactic(auto)]
+
 mod heel;
 mod members;
 mod pressure;

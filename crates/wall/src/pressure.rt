@@ -13,7 +13,7 @@ use rules::Fraction;
 pub const PER_PRESSURE: u64 = 1000;
 
 // A fraction in whole numbers: what lies above 0 of its two figures.
-#[derive(Drop)]
+#[derive(Clone, Copy)]
 pub struct Parts {
     pub over: u64,
     pub under: u64,

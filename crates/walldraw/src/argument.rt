@@ -3,7 +3,7 @@ ghost use Rattle.std.specs.Prelude.{◌≡◌};
 ghost use Rattle.walldraw.specs.Argument.{asked_for};
 
 // What an argument asks for.
-#[derive(Drop)]
+#[derive(Clone, Copy)]
 pub enum Asked {
     // the number
     Wall(u32),

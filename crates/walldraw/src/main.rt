@@ -1,5 +1,7 @@
 // Prints the drawing of a wall of the job file on standard input: the name of its shape and its figures' bits, or the refusal. The wall's number
 // is the argument.
+#![tactic(auto)]
+
 mod argument;
 
 use argument::Asked;

@@ -1,5 +1,7 @@
 // Prints the sheet of the job file on standard input: a line for each wall, or the refusal. Of an input that is longer than the buffer the start
 // is enough, since no job is as long (`rules` `LongInput.printed_read`).
+#![tactic(auto)]
+
 use libc::{STDIN_FILENO, STDOUT_FILENO};
 
 // The sheet of a job; answers whether standard output took it all.

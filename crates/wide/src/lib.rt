@@ -1,11 +1,13 @@
 // Natural numbers of 192 bits, by value: for products that 64 bits don't hold, and for their quotients, which they hold again.
 // Every public function takes whatever it is given. For a caller, proofs/Exact.antt has a law for each.
+#![tactic(auto)]
+
 ghost use Rattle.std.specs.Prelude.{◌≡◌, ◌+◌, ◌-◌, ◌*◌, ◌%◌, ◌^◌, ◌<◌, ◌≤◌, min, nat_le};
 ghost use Rattle.whole.specs.Rounding.{rounded_up, rounded_down};
 ghost use Rattle.wide.specs.Value.{base, size, value, Is};
 
 // Three digits in base 2^64.
-#[derive(Drop)]
+#[derive(Clone, Copy)]
 pub struct Wide {
     pub low: u64,
     pub middle: u64,
@@ -24,7 +26,7 @@ pub fn of(n: u64) -> Wide
 }
 
 // Two digits.
-#[derive(Drop)]
+#[derive(Clone, Copy)]
 struct Pair {
     low: u64,
     high: u64,
@@ -48,7 +50,7 @@ fn row(a: u64, f: u64, carry: u64) -> Pair
 }
 
 // A product: its lowest 192 bits, and the digit above them.
-#[derive(Drop)]
+#[derive(Clone, Copy)]
 struct Carried {
     kept: Wide,
     over: u64,
@@ -78,7 +80,7 @@ pub fn times(a: Wide, f: u64) -> Wide
 }
 
 // A digit less another, and 1 where the next digit has to lend for it.
-#[derive(Drop)]
+#[derive(Clone, Copy)]
 struct Less {
     digit: u64,
     lent: u64,
@@ -100,7 +102,7 @@ fn digit_less(a: u64, b: u64, lent: u64) -> Less
 }
 
 // A number less another, and 1 where 2^192 has to be lent for it.
-#[derive(Drop)]
+#[derive(Clone, Copy)]
 struct Lent {
     rest: Wide,
     lent: u64,
@@ -138,7 +140,7 @@ pub fn minus(a: Wide, b: Wide) -> Wide
 }
 
 // The first 64 bits of a number, from its first 1 on, and how many bits the number has.
-#[derive(Drop)]
+#[derive(Clone, Copy)]
 struct Leading {
     digit: u64,
     bits: u32,
@@ -190,7 +192,7 @@ fn estimate(n: Leading, d: Leading) -> u64 {
 }
 
 // How often a number goes into another, and what is left.
-#[derive(Drop)]
+#[derive(Clone, Copy)]
 struct Division {
     quotient: u64,
     rest: Wide,

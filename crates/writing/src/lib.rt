@@ -1,4 +1,6 @@
 // Document 02, #101: a job file written. Any numbers are records, and they have one answer.
+#![tactic(auto)]
+
 use job::HEADER_BYTES;
 use record::{ENTRY_BYTES, MOST_LOADS, MOST_WALLS, WALL_BYTES};
 use rules::Written;

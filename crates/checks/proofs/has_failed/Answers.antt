@@ -1,0 +1,10 @@
+-- `checks::has_failed` meets its contract: the mask takes the lowest digit of what is shifted.
+use Prim.Native.Nat.{◌/◌, ◌^◌}
+use borrow.Author.Rules.{rules}
+use lib.Bits.{and_mask}
+use Rattle.rules.specs.SheetLine.{is_set}
+use Rattle.checks.proofs.has_failed.Goals as goal
+
+pub returns : goal.returns
+unfolding is_set
+returns c = rw (← c.Shift-of.ensures.0, and_mask (c.args.failures / 2 ^ c.Shift-of.result) 1)

@@ -1,0 +1,12 @@
+-- `desk::print_rewritten` is safe: what it writes ends within the buffer.
+use mathlib.Core.Path.{sym}
+use borrow.Author.Rules.{rules}
+use lib.Seq.{length-take-le}
+use Rattle.rules.proofs.Putting.{put_within}
+use Rattle.desk.proofs.print_rewritten.Goals as goal
+
+pub slice_bounds-file-end : goal.slice_bounds-file-end
+slice_bounds-file-end c = put_within c.rewrite-count.ensures
+
+pub slice_bounds-write_all-end : goal.slice_bounds-write_all-end
+slice_bounds-write_all-end c = sym (length-take-le _ _ (put_within c.rewrite-count.ensures))

@@ -1,0 +1,25 @@
+-- `forces::sliding::friction_under` meets its contract. What lasts is a signed number, which is read back from its bits.
+use mathlib.Core.Path.{◌≡◌, ap, ◌∙◌}
+use native.Mathlib.Omega.{arith}
+use borrow.Author.Rules.{rules}
+use mir.Facts.{to_z-of_z}
+use Rattle.whole.specs.Parts.{above_zero}
+use Rattle.rules.specs.Forces.{friction_under}
+use Rattle.rules.proofs.Accepted.{wall_within}
+use Rattle.whole.proofs.Factors.{two_fit}
+use Rattle.whole.proofs.Integer.{above_most}
+use Rattle.forces.proofs.sliding.friction_under.Goals.{After-above_zero}
+use Rattle.forces.proofs.sliding.friction_under.Goals as goal
+
+-- what is multiplied is the part above 0 of what lasts
+lasting-is : (c : After-above_zero) → c.above_zero.result ≡ above_zero c.args.lasting
+lasting-is c = c.above_zero.ensures ∙ ap above_zero (to_z-of_z c.ranges.lasting)
+
+pub overflow_mul-field : goal.overflow_mul-field
+overflow_mul-field c =
+    let start = c.before.before in
+    two_fit (omega (arith, lasting-is c, above_most _ start.requires.1, wall_within _ start.requires.0))
+
+pub returns : goal.returns
+unfolding friction_under
+returns c = rw (lasting-is c.before, c.field.ensures.0) at c.rounded_down.ensures

@@ -1,0 +1,55 @@
+-- `forces::sliding::held` meets its contract. A push is taken by its part above 0; whether the wall is propped is told by its kind.
+use mathlib.Core.Path.{◌≡◌, ap, ◌∙◌}
+use native.Mathlib.Omega.{arith}
+use borrow.Author.Rules.{rules}
+use borrow.Author.Tests.{eq-eqb, ne_eqb}
+use mir.Facts.{to_z-of_z}
+use Rattle.whole.specs.Parts.{above_zero}
+use Rattle.rules.specs.Forces.{friction_under, is_propped, sliding_under}
+use Rattle.rules.proofs.Accepted.{wall_within}
+use Rattle.rules.proofs.Sizes.{passive_most, friction_most}
+use Rattle.forces.proofs.Holding.{left_of, more_than}
+use Rattle.forces.proofs.sliding.held.Goals.{After-above_zero-push, After-friction_under-friction}
+use Rattle.forces.proofs.sliding.held.Goals as goal
+
+-- what the two calls with a signed number give, of the number itself
+friction-is : (c : After-friction_under-friction) → c.friction_under-friction.result ≡ friction_under c.args.wall c.args.lasting
+friction-is c = c.friction_under-friction.ensures ∙ ap (friction_under _) (to_z-of_z c.ranges.lasting)
+
+push-is : (c : After-above_zero-push) → c.above_zero-push.result ≡ above_zero c.args.pushing
+push-is c = c.above_zero-push.ensures ∙ ap above_zero (to_z-of_z c.ranges.pushing)
+
+pub overflow_add-holding : goal.overflow_add-holding
+overflow_add-holding c =
+    let w = wall_within _ c.requires.0 in
+    omega (arith, friction-is c, passive_most w, friction_most w c.requires.1)
+
+pub returns-then-field-eq-PROPPED : goal.returns-then-field-eq-PROPPED
+unfolding sliding_under is_propped
+returns-then-field-eq-PROPPED c =
+    rw (
+      c.excess.ensures,
+      push-is c.before.before.before,
+      friction-is c.before.before.before.before,
+      c.passive_force-passive.ensures,
+      ← c.field.ensures.0,
+      eq-eqb _ _ c.if-field-eq-PROPPED.true,
+      left_of,
+    )
+
+pub returns-else-field-eq-PROPPED : goal.returns-else-field-eq-PROPPED
+unfolding sliding_under is_propped
+returns-else-field-eq-PROPPED c =
+    rw (
+      push-is c.before.before,
+      friction-is c.before.before.before,
+      c.passive_force-passive.ensures,
+      ← c.field.ensures.0,
+      ne_eqb _ _ c.if-field-eq-PROPPED.false,
+      more_than,
+    )
+
+pub held_spec : {M : Type 1} → statement M
+held_spec =
+    goal.close (goal.spec (λ c κs. search rules) (λ c κs. search rules) add-holding (λ c κs. search rules) (λ c κs. search rules) (λ c κs. search rules)
+    returns returns-2)

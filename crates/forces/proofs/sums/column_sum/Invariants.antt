@@ -1,0 +1,20 @@
+-- `forces::sums::column_sum` meets its contract. The invariant: the sum is that of the rows passed, in bits.
+use mathlib.Core.Path.{◌≡◌, refl, ap, ◌∙◌}
+use mathlib.Core.List.{List, []}
+use Prim.Native.Nat.{ℕ, ◌*◌, ◌-◌, ◌≤◌}
+use native.Mathlib.Omega.{arith}
+use native.Mathlib.Numerals.{add-one}
+use lib.IntN.{ℤ, pos, nat_abs, ◌+ℤ◌, ◌*ℤ◌}
+use lib.ListN.{get_or}
+use mir.Syntax.{w64}
+use mir.Val.{SFits, of_z, to_z}
+use Rattle.whole.specs.Sum.{sum_to}
+use Rattle.rules.proofs.Sizes.{greatest_cell}
+use Rattle.whole.proofs.Integer.{abs_add, abs_weighted, fits_abs, back}
+use Rattle.forces.specs.Tables.{components}
+use Rattle.forces.specs.Sorts.{weighted, weighted_sum, Small, Light}
+use Rattle.forces.proofs.Summed.{sum_within}
+use Rattle.forces.proofs.sums.column_sum.Given as goal
+
+abbrev pub invariant-loop-i : goal.invariant-loop-i
+invariant-loop-i l = Passed l.table l.sorts l.weights l.column l.sum l.i

@@ -1,0 +1,13 @@
+-- `forces::weights::downstand_weight` meets its contract. Its sides and density are small by their ranges.
+use native.Mathlib.Omega.{arith}
+use borrow.Author.Rules.{rules}
+use Rattle.rules.specs.Forces.{downstand_weight}
+use Rattle.rules.proofs.Accepted.{wall_within}
+use Rattle.forces.proofs.weights.downstand_weight.Goals as goal
+
+pub returns : goal.returns
+unfolding downstand_weight
+returns c = cc
+
+pub slab_weight-requires : goal.slab_weight-requires
+slab_weight-requires c = omega (arith, wall_within _ c.requires)

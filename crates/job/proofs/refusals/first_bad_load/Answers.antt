@@ -1,0 +1,67 @@
+-- `job::refusals::first_bad_load` meets its contract. The invariant: the loads before the index were passed, and are counted wall by wall.
+use mathlib.Core.List.{[]}
+use Prim.Native.Nat.{◌-◌, ◌≤◌, ◌<◌}
+use native.Mathlib.Omega.{arith}
+use lib.ListN.{get_or}
+use Rattle.rules.specs.JobFile.{most_walls, most_loads_on_wall, entry_at, walls, entries}
+use Rattle.rules.proofs.AcceptedFile.{walls_length}
+use Rattle.rules.specs.Answered.{first_bad_load}
+use Rattle.job.proofs.Judging.{Passed, all_passed, refused, one_passed, load_answer_at, no_load_passed}
+use Rattle.job.proofs.Counting.{Counted, none_counted, Met, its_answer, has_room, one_counted}
+use Rattle.job.proofs.refusals.first_bad_load.Goals.{After-is_worked, After-load_answer-answer, Else-not-is_worked, In-loop-i}
+use Rattle.job.proofs.refusals.first_bad_load.Goals as goal
+
+pub loop-i-init : goal.loop-i-init
+unfolding entries
+loop-i-init c = (rw c.load_count-loads.ensures (no_load_passed _ _ _), none_counted _)
+
+-- where the turn of a load that is judged began
+abbrev turn : (c : After-is_worked) → In-loop-i
+turn c = c.before.before.before.before.before
+
+-- the load that is answered
+met : (c : After-load_answer-answer) → let counted = c.before.before in let loop = counted.before.before.before in
+    let file = loop.args.file.now in
+    Met (walls file) (entry_at file) loop.loop-i.i loop.loop-i.counts counted.entry_at-entry.result counted.count_on-passed.result c.load_answer-answer.result
+met c =
+    let counted = c.before.before in
+    let loop = counted.before.before.before in
+    record {
+      few = rw walls_length loop.requires;
+      counted = loop.loop-i.invariant.1;
+      its = counted.entry_at-entry.ensures;
+      count = counted.count_on-passed.ensures;
+      answered = rw (← c.entry_fits.ensures) c.load_answer-answer.ensures;
+    }
+
+pub returns-then-not-is_worked : goal.returns-then-not-is_worked
+returns-then-not-is_worked c =
+    let its = turn c.before in
+    refused its.loop-i.invariant.0 its.loop-i-test.true (its_answer (met c.before.before)) c.is_worked.ensures c.if-not-is_worked.true-raw
+
+-- a load that is passed has room on a wall that is counted
+room : (c : Else-not-is_worked) → let counted = c.before.before.before.before in
+    (get_or counted.entry_at-entry.result 0 0 ≤ most_walls) × (counted.count_on-passed.result < most_loads_on_wall)
+room c = has_room (met c.before.before) c.is_worked.ensures c.if-not-is_worked.false-raw
+
+pub loop-i-preserved : goal.loop-i-preserved
+loop-i-preserved c =
+    let its = turn c.before in
+    let answered = met c.before.before in
+    let told = c.is_worked.ensures in
+    (one_passed its.loop-i.invariant.0 its.loop-i-test.true (its_answer answered) told c.if-not-is_worked.false-raw, one_counted answered told c.if-not-is_worked.false-raw)
+
+pub returns : goal.returns
+returns c = all_passed c.loop-i.invariant.0 c.loop-i-test.false
+
+pub overflow_cast-wall : goal.overflow_cast-wall
+overflow_cast-wall c = omega (arith, room c)
+
+pub overflow_add-counts : goal.overflow_add-counts
+overflow_add-counts c = omega (arith, room c)
+
+pub offset_bounds-counts-wall : goal.offset_bounds-counts-wall
+offset_bounds-counts-wall c = omega (arith, room c)
+
+pub bounds-counts-wall : goal.bounds-counts-wall
+bounds-counts-wall c = omega (arith, room c)

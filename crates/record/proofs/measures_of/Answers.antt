@@ -1,0 +1,8 @@
+-- `record::measures_of` meets its contract.
+use borrow.Author.Rules.{rules}
+use Rattle.record.specs.Measured.{measures_of}
+use Rattle.record.proofs.measures_of.Goals as goal
+
+pub returns : goal.returns
+unfolding measures_of
+returns c = cc

@@ -1,0 +1,14 @@
+-- `soil::active_by` meets its contract. A coefficient is at most 1, so it fits.
+use native.Mathlib.Omega.{arith}
+use borrow.Author.Rules.{rules}
+use mir.Facts.{Fits-le, Fits-lit}
+use Rattle.whole.proofs.Rounded.{up_least}
+use Rattle.rules.specs.Coefficients.{active}
+use Rattle.soil.proofs.active_by.Goals as goal
+
+pub overflow_cast-result : goal.overflow_cast-result
+overflow_cast-result c = Fits-le {n = 1000} (rw c.rounded_up.ensures (up_least {n = 1000} _ (omega arith))) (Fits-lit tt)
+
+pub returns : goal.returns
+unfolding active
+returns c = c.rounded_up.ensures

@@ -1,0 +1,27 @@
+-- `text::drawing_text` meets its contract.
+use mathlib.Core.Path.{◌≡◌, sym, ◌∙◌}
+use mathlib.Core.Bool.{true, false}
+use borrow.Author.Rules.{rules}
+use borrow.Author.Tests.{not-true, not-false}
+use Rattle.rules.specs.Answered.{is_worked}
+use Rattle.rules.specs.Beyond.{drawing_text}
+use Rattle.rules.proofs.Fitting.{put_nothing, put_fitting}
+use Rattle.text.proofs.drawing_text.Goals.{Else-not-is_worked, Then-not-is_worked}
+use Rattle.text.proofs.drawing_text.Goals as goal
+
+refused : (c : Then-not-is_worked) → is_worked c.args.drawn.answer ≡ false
+refused c = sym c.is_worked.ensures ∙ not-true _ c.if-not-is_worked.true-raw
+
+worked : (c : Else-not-is_worked) → is_worked c.args.drawn.answer ≡ true
+worked c = sym c.is_worked.ensures ∙ not-false _ c.if-not-is_worked.false-raw
+
+pub returns-then-out-lt-LINE_ROOM : goal.returns-then-out-lt-LINE_ROOM
+returns-then-out-lt-LINE_ROOM c = put_nothing _ _ c.if-out-lt-LINE_ROOM.true
+
+pub returns-then-not-is_worked : goal.returns-then-not-is_worked
+returns-then-not-is_worked c = rw (refused c.before.before.before.before) c.refusal_text.ensures
+
+pub returns : goal.returns
+returns c = (λ c.
+    let drawn = c.before.before.before.before in
+    rw (worked drawn) (put_fitting _ _ drawn.if-out-lt-LINE_ROOM.false c.put_drawn.ensures))

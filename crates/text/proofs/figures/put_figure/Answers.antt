@@ -1,0 +1,12 @@
+-- `text::figures::put_figure` meets its contract: the digits are put behind a space.
+use mathlib.Core.List.{append-nil}
+use borrow.Author.Rules.{rules}
+use Rattle.rules.specs.Beyond.{figure_text, figures_text}
+use Rattle.text.proofs.Placing.{then}
+use Rattle.text.proofs.figures.put_figure.Goals as goal
+
+pub returns : goal.returns
+unfolding figure_text figures_text
+returns c =
+    let bits = c.before.before.before.before in
+    rw append-nil (then bits.put_byte-space_end.ensures (rw bits.bits_of.ensures at c.put_hex.ensures))

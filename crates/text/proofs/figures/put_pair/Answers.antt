@@ -1,0 +1,11 @@
+-- `text::figures::put_pair` meets its contract.
+use mathlib.Core.List.{[], ◌∷◌}
+use borrow.Author.Rules.{rules}
+use Rattle.text.proofs.Drawings.{then_figures}
+use Rattle.text.proofs.figures.put_pair.Goals as goal
+
+pub returns : goal.returns
+returns c =
+    let first = c.before.before.before.before.before.before in
+    let args = first.args in
+    then_figures (args.x ∷ []) (args.y ∷ []) first.put_figure-first_end.ensures c.put_figure.ensures

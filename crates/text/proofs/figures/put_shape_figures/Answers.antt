@@ -1,0 +1,17 @@
+-- `text::figures::put_shape_figures` meets its contract.
+use borrow.Author.Rules.{rules}
+use Rattle.rules.specs.Beyond.{shape_figures, figures_text}
+use Rattle.text.proofs.Placing.{nothing}
+use Rattle.text.proofs.figures.put_shape_figures.Goals as goal
+
+pub returns-in-Whole : goal.returns-in-Whole
+returns-in-Whole c = rw c.shape.given.1 c.put_pair.ensures
+
+pub returns-in-ToeTriangle : goal.returns-in-ToeTriangle
+returns-in-ToeTriangle c = rw c.shape-in-ToeTriangle-1.given.1 c.put_pair-in-ToeTriangle.ensures
+
+pub returns-in-HeelTriangle : goal.returns-in-HeelTriangle
+returns-in-HeelTriangle c = rw c.shape-in-HeelTriangle-1.given.1 c.put_pair-in-HeelTriangle.ensures
+
+pub returns-in-Nothing : goal.returns-in-Nothing
+returns-in-Nothing c = rw c.enum_told.given.1 nothing

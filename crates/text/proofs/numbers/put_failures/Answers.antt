@@ -1,0 +1,13 @@
+-- `text::numbers::put_failures` meets its contract: the digits are put behind the space.
+use borrow.Author.Rules.{rules}
+use mir.Syntax.{w64}
+use mir.ValLaws.{to_z-of_z}
+use Rattle.text.proofs.Placing.{then}
+use Rattle.text.proofs.numbers.put_failures.Goals as goal
+
+pub returns : goal.returns
+returns c =
+    let number = c.before.before.before.before in
+    let space = number.before.before.before in
+    let same = to_z-of_z w64 _ space.ranges.failures in
+    then space.put_byte-space_end.ensures (rw (number.above_zero.ensures, same) at c.put_hex.ensures)

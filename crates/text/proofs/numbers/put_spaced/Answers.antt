@@ -1,0 +1,11 @@
+-- `text::numbers::put_spaced` meets its contract: the number is put behind the space.
+use borrow.Author.Rules.{rules}
+use mir.Syntax.{w64}
+use mir.ValLaws.{to_z-of_z}
+use Rattle.text.proofs.Placing.{then}
+use Rattle.text.proofs.numbers.put_spaced.Goals as goal
+
+pub returns : goal.returns
+returns c =
+    let space = c.before.before.before.before.before.before in
+    then space.put_byte-space_end.ensures (rw (to_z-of_z w64 _ space.ranges.z) at c.put_signed.ensures)

@@ -1,0 +1,63 @@
+-- `wall::triangle::begun_moment` meets its contract: how far the triangle reaches past the section is the law's number, each product is kept whole, and the quotient fits.
+use mathlib.Core.Path.{◌≡◌, sym, ◌∙◌}
+use Prim.Native.Nat.{ℕ, ◌-◌, ◌*◌, ◌≤◌, ◌<◌, ◌^◌}
+use native.Mathlib.Nat.{mul-le-mul_left}
+use native.Mathlib.Omega.{arith}
+use borrow.Author.Rules.{rules}
+use lib.Dec.{lit≤}
+use Rattle.whole.specs.Rounding.{rounded_up}
+use Rattle.whole.proofs.Rounded.{up_of_zero}
+use Rattle.wide.proofs.Exact.{first, exactly, up_exact}
+use Rattle.rules.specs.ToeAndStem.{per_pressure, plain, begun_moment, in_newtons}
+use Rattle.rules.proofs.Accepted.{longest}
+use Rattle.rules.proofs.Triangles.{past, before_moment}
+use Rattle.wall.specs.Working.{fraction, begins}
+use Rattle.wall.proofs.Widths.{widest, length_fits_lem, over_parts, past_fits, heel_moment_fits}
+use Rattle.wall.proofs.triangle.begun_moment.Goals.{After-excess-past}
+use Rattle.wall.proofs.triangle.begun_moment.Goals as goal
+
+pub overflow_mul-under : goal.overflow_mul-under
+overflow_mul-under c = omega (arith, length_fits_lem c.requires.0.contact c.args.l c.requires.1, mul-le-mul_left c.args.under (let k : 2 * c.args.l - c.args.arm ≤ 2 * c.args.l = omega arith in k))
+
+-- what is past the section, which is no more than the contact, nor than the way to the section
+abbrev reached : After-excess-past → ℕ
+reached c = c.excess-past.result
+
+same : (c : After-excess-past) → let a = c.args in reached c ≡ past a.over a.under a.l a.arm 2
+unfolding past
+same c = c.excess-past.ensures
+
+short : (c : After-excess-past) → let a = c.args in (reached c ≤ 2 * a.over) × (reached c ≤ longest * a.under) × (reached c ≤ widest)
+short c = let start = c.before in rw (same c) (past_fits start.requires.0 start.args.l start.args.arm (omega arith) start.requires.4 (omega arith) (omega arith))
+
+-- the definition by it
+law : (c : After-excess-past) → let a = c.args in let e = reached c in
+    in_newtons (begun_moment (plain a.peak) (fraction a.over a.under) (begins a.l a.over a.under) (fraction a.arm 2))
+    ≡ rounded_up (a.peak * e * e * e) (48 * per_pressure * a.under * a.under * a.over)
+law c =
+    let start = c.before in
+    let s = start.requires.0 in
+    rw (same c) (before_moment start.args.peak _ _ s.contact.over_some s.contact.under_some start.args.l start.args.arm 2 (omega arith) start.requires.4 (omega arith))
+
+pub returns-then-past-eq0 : goal.returns-then-past-eq0
+returns-then-past-eq0 c =
+    let peak = c.args.peak in
+    let none : reached c.before ≡ 0 = omega arith in
+    let nothing : peak * 0 * 0 * 0 ≡ 0 = omega arith in
+    sym (law c.before ∙ rw (none, nothing) (up_of_zero _))
+
+pub overflow_mul-peak : goal.overflow_mul-peak
+overflow_mul-peak c = omega (arith, over_parts c.requires.0 (reached c.before) (short c.before).2)
+
+pub returns : goal.returns
+returns c =
+    let below = c.before in
+    let above = below.before.before.before in
+    let excess = above.before.before.before.before in
+    let s = excess.requires.0 in
+    let few : reached excess < 2 ^ 41 = omega (arith, short excess) in
+    let peak = first 62 above.of.ensures (over_parts s (reached excess) (short excess).2) in
+    let part = exactly 41 (exactly 41 peak few (lit≤ tt) above.times.ensures) few (lit≤ tt) above.times-above.ensures in
+    let under = exactly 28 (first 43 below.of-2.ensures (omega arith)) (omega arith) (lit≤ tt) below.times-2.ensures in
+    let over = exactly 41 under (omega arith) (lit≤ tt) below.times-below.ensures in
+    up_exact part over (heel_moment_fits s (short excess).0 (short excess).1) c.quotient_up.ensures ∙ sym (law excess)

@@ -1,0 +1,8 @@
+-- `wall::worked` meets its contract.
+use borrow.Author.Rules.{rules}
+use Rattle.wall.specs.Working.{worked_over}
+use Rattle.wall.proofs.worked.Goals as goal
+
+pub returns : goal.returns
+unfolding worked_over
+returns c = rw (c.heel_over.ensures, c.stem_under.ensures, c.toe_over.ensures)

@@ -1,0 +1,12 @@
+-- `wide::divided` meets its contract. The invariant: what was taken off and what is left make up n. What is left falls.
+use Rattle.std.proofs.Common.{◌≡◌, ◌+◌, ◌*◌, ◌^◌, arith, rules}
+use Rattle.wide.specs.Value.{base, value}
+use Rattle.wide.proofs.Divisions.{more, fewer, less}
+use Rattle.wide.proofs.Tests.{yes, no}
+use Rattle.wide.proofs.divided.Given as goal
+
+abbrev pub invariant-loop-d : goal.invariant-loop-d
+invariant-loop-d l = value l.initial.rest ≡ l.quotient * value l.d + value l.rest
+
+abbrev pub decreases-loop-d : goal.decreases-loop-d
+decreases-loop-d l = value l.rest

@@ -1,0 +1,26 @@
+-- `writing::bytes::put_u32s` meets its contract. The invariant: the numbers that were passed are put.
+use Prim.Native.Nat.{◌-◌}
+use native.Mathlib.Omega.{arith}
+use Rattle.rules.specs.WrittenFile.{u32_bytes, u32s_bytes}
+use Rattle.rules.proofs.Bytes.{u32_sized}
+use Rattle.writing.proofs.Writing.{NumbersPut, no_number, next_room, next_number, all_numbers}
+use Rattle.writing.proofs.bytes.put_u32s.Goals as goal
+
+pub put_u32-requires : goal.put_u32-requires
+put_u32-requires c = let turn = c.before.before in next_room turn.loop-k.invariant turn.loop-k-test.true
+
+pub loop-k-preserved : goal.loop-k-preserved
+loop-k-preserved c =
+    let put = c.before.before in
+    let turn = put.before.before.before in
+    next_number turn.loop-k.invariant turn.loop-k-test.true put.put_u32.ensures
+
+pub returns : goal.returns
+unfolding u32s_bytes
+returns c = all_numbers c.loop-k.invariant c.loop-k-test.false
+
+pub loop-k-init : goal.loop-k-init
+loop-k-init c = no_number u32_sized c.requires
+
+pub shape_of-out : goal.shape_of-out
+shape_of-out c = c.loop-k.invariant.pieced.kept

@@ -1,0 +1,13 @@
+-- `writing::written::file_bytes` meets its contract.
+use borrow.Author.Rules.{rules}
+use mathlib.Core.Path.{sym}
+use native.Mathlib.Omega.{arith}
+use Rattle.rules.proofs.Bytes.{file_length}
+use Rattle.writing.proofs.LentRecords.{few_records}
+use Rattle.writing.proofs.written.file_bytes.Goals as goal
+
+pub overflow_add-result-2 : goal.overflow_add-result-2
+overflow_add-result-2 c = omega (arith, few_records _ _ c.requires)
+
+pub returns : goal.returns
+returns c = sym (file_length _ _)
