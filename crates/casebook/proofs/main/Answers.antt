@@ -8,9 +8,3 @@ use Rattle.casebook.proofs.main.Goals as goal
 pub loop-number-preserved : goal.loop-number-preserved
 loop-number-preserved c =
     let counted = c.loop-number.invariant in ⊎_elim (λ w. omega (arith, counted, w)) (λ w. omega (arith, counted, w)) c.if-outcome.branch
-
-pub main_spec : {M : Type 1} → statement M
-main_spec =
-    goal.close
-    (goal.spec (λ c κs. tt) (λ c. omega arith) (λ c κs. tt) (λ c. search rules) (λ c κs. tt) (λ c. tt) (λ c. omega arith) (λ c. omega arith)
-    (λ c. omega arith) loop-again (λ c κs. tt) (λ c. search rules) (λ c κs. tt) (λ c. tt) (λ c. tt))

@@ -17,12 +17,12 @@ fit c = sym (judged c.before) ∙ not-false _ c.if-not-is_worked.false-raw
 pub returns-then-not-is_worked : goal.returns-then-not-is_worked
 unfolding forces_of
 returns-then-not-is_worked c =
-    let d = c.before.before in
-    rw (sym (judged d) ∙ not-true _ c.if-not-is_worked.true-raw, c.no_forces.ensures, d.examined-answer.ensures)
+    let d = c in
+    rw (sym (judged (goal.at.returns-then-not-is_worked c).After-is_worked) ∙ not-true _ c.if-not-is_worked.true-raw, c.no_forces.ensures, d.examined-answer.ensures)
 
 pub returns : goal.returns
 unfolding forces_of
-returns c = rw (fit c.before) c.worked.ensures
+returns c = rw (fit (goal.at.returns c).Else-not-is_worked) c.worked.ensures
 
 pub worked-requires : goal.worked-requires
-worked-requires c = rw (fit c) tt
+worked-requires c = rw (fit (goal.at.worked-requires c).Else-not-is_worked) tt

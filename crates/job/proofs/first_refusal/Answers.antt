@@ -16,16 +16,16 @@ past-header c = goes_on _ (in_order _) c.header_answer-bad_header.ensures c.is_w
 
 pub returns-then-not-is_worked-2 : goal.returns-then-not-is_worked-2
 returns-then-not-is_worked-2 c =
-    let d = c.before.before in
-    stops _ (past-header d.before) d.first_bad_wall-bad_wall.ensures c.is_worked-2.ensures c.if-not-is_worked-2.true-raw
+    let d = c in
+    stops _ (past-header (goal.at.returns-then-not-is_worked-2 c).Else-not-is_worked) d.first_bad_wall-bad_wall.ensures c.is_worked-2.ensures c.if-not-is_worked-2.true-raw
 
 pub first_bad_load-requires : goal.first_bad_load-requires
 first_bad_load-requires c =
-    let d = c.before.before.before in
+    let d = c in
     few_walls _ (no_refusal d.header_answer-bad_header.ensures d.is_worked.ensures d.if-not-is_worked.false-raw)
 
 pub returns : goal.returns
 returns c =
-    let d = c.before.before.before in
-    let past-walls = goes_on _ (past-header d.before) d.first_bad_wall-bad_wall.ensures c.is_worked-2.ensures c.if-not-is_worked-2.false-raw in
+    let d = c in
+    let past-walls = goes_on _ (past-header (goal.at.returns c).Else-not-is_worked) d.first_bad_wall-bad_wall.ensures c.is_worked-2.ensures c.if-not-is_worked-2.false-raw in
     c.first_bad_load.ensures ∙ sym past-walls

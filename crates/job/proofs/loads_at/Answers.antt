@@ -11,15 +11,15 @@ use Rattle.job.proofs.loads_at.Goals as goal
 
 pub loop-i-init : goal.loop-i-init
 unfolding loads_at
-loop-i-init c = none_filled (rw length-map c.well-formed.1.0.1.0.1) refl
+loop-i-init c = none_filled (rw length-map c.well_formed.1.0.1.0.1) refl
 
 pub loop-i-preserved : goal.loop-i-preserved
 unfolding loads_at
 loop-i-preserved c =
-    let start = c.before.before.before.before in
+    let start = c in
     let loop = c.loop-i in
-    let there : loop.i < length start.args.t2 = omega (arith, start.well-formed.1.0.1.0.1) in
-    one_more [] loop.invariant (omega arith) (c.load_numbered.ensures ∙ sym (mapped (load_numbered start.args.file.now) start.args.t2 loop.i [] 0 there))
+    let there : loop.i < length start.args.row = omega (arith, start.well_formed.1.0.1.0.1) in
+    one_more [] loop.invariant (omega arith) (c.load_numbered.ensures ∙ sym (mapped (load_numbered start.args.file.now) start.args.row loop.i [] 0 there))
 
 pub returns : goal.returns
 returns c = all_filled c.loop-i.invariant (omega arith)

@@ -11,7 +11,7 @@ use Rattle.rules.specs.JobFile.{entries_at}
 use Rattle.rules.specs.Answered.{is_worked}
 use Rattle.rules.proofs.Rewritten.{taken_fits}
 use Rattle.job.proofs.Taking.{not_taken, all_taken}
-use Rattle.job.proofs.take_apart.Goals.{After-load_numbers-load_numbers, Else-not-is_worked, Start}
+use Rattle.job.proofs.take_apart.Goals.{After-load_numbers-load_numbers, Else-not-is_worked}
 use Rattle.job.proofs.take_apart.Goals as goal
 
 pub returns-then-not-is_worked : goal.returns-then-not-is_worked
@@ -21,44 +21,40 @@ returns-then-not-is_worked c = not_taken c.taking_answer-answer.ensures (sym c.i
 worked : (c : Else-not-is_worked) → is_worked c.taking_answer-answer.result ≡ true
 worked c = sym c.is_worked.ensures ∙ not-false _ c.if-not-is_worked.false-raw
 
--- so both buffers have the room
-abbrev start : After-load_numbers-load_numbers → Start
-start c = c.before.before.before.before.before.before.before.before
-
-room : (c : After-load_numbers-load_numbers) → let lent = (start c).args in
+room : (c : After-load_numbers-load_numbers) → let lent = c.args in
     (c.wall_numbers-wall_numbers.result ≤ length lent.walls.now) × (c.load_numbers-load_numbers.result ≤ length lent.loads.now)
 room c =
-    let lent = (start c).args in
+    let lent = c.args in
     let passed = c.before.before in
     let fits = taken_fits lent.file.now (length lent.walls.now) (length lent.loads.now)
     (rw (← passed.taking_answer-answer.ensures, worked passed) tt) in
     omega (arith, fits, c.wall_numbers-wall_numbers.ensures.0, c.load_numbers-load_numbers.ensures.0)
 
 pub slice_bounds-read_u32s-end-2 : goal.slice_bounds-read_u32s-end-2
-slice_bounds-read_u32s-end-2 c = sym (length-take-le _ _ (room c.before).0)
+slice_bounds-read_u32s-end-2 c = sym (length-take-le _ _ (room (goal.at.slice_bounds-read_u32s-end-2 c).After-load_numbers-load_numbers).0)
 
 pub slice_bounds-read_u32s-end-4 : goal.slice_bounds-read_u32s-end-4
-slice_bounds-read_u32s-end-4 c = sym (length-take-le _ _ (room c.before.before.before.before.before.before).1)
+slice_bounds-read_u32s-end-4 c = sym (length-take-le _ _ (room (goal.at.slice_bounds-read_u32s-end-4 c).After-load_numbers-load_numbers).1)
 
 pub returns : goal.returns
 unfolding entries_at
 returns c =
-    let loads = c.before.before in
+    let loads = c in
     let placed = loads.before.before in
     let walls = placed.before.before.before in
     let counted = walls.before.before in
     let passed = counted.before.before in
-    all_taken passed.taking_answer-answer.ensures (worked passed) counted.wall_numbers-wall_numbers.ensures.0 counted.load_numbers-load_numbers.ensures.0
+    all_taken passed.taking_answer-answer.ensures (worked (goal.at.returns c).Else-not-is_worked) counted.wall_numbers-wall_numbers.ensures.0 counted.load_numbers-load_numbers.ensures.0
     placed.entries_at.ensures.0 walls.read_u32s.ensures loads.read_u32s-2.ensures
 
 pub slice_bounds-read_u32s-end : goal.slice_bounds-read_u32s-end
-slice_bounds-read_u32s-end c = (room c).0
+slice_bounds-read_u32s-end c = (room (goal.at.slice_bounds-read_u32s-end c).After-load_numbers-load_numbers).0
 
 pub read_u32s-requires : goal.read_u32s-requires
 read_u32s-requires c = rw (← walls-lent c) (omega arith)
 
 pub slice_bounds-read_u32s-end-3 : goal.slice_bounds-read_u32s-end-3
-slice_bounds-read_u32s-end-3 c = (room c.before.before.before.before.before).1
+slice_bounds-read_u32s-end-3 c = (room (goal.at.slice_bounds-read_u32s-end-3 c).After-load_numbers-load_numbers).1
 
 pub read_u32s-requires-2 : goal.read_u32s-requires-2
 read_u32s-requires-2 c = rw (← loads-lent c) (omega arith)

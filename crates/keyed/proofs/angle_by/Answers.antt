@@ -6,7 +6,7 @@ use Rattle.keyed.proofs.angle_by.Goals as goal
 
 pub digits_behind-requires : goal.digits_behind-requires
 digits_behind-requires c =
-    let read = c.before in
+    let read = c in
     rw (sym (value_read 0 read.args.degrees.now (sym read.digits_behind-digits.ensures ∙ read.digits.given.1)).1) (told_small _)
 
 pub returns-in-NoDigits : goal.returns-in-NoDigits
@@ -14,6 +14,6 @@ returns-in-NoDigits c = sym (angle_none _ _ (sym c.digits_behind-digits.ensures 
 
 pub returns-in-Value : goal.returns-in-Value
 returns-in-Value c =
-    let read = c.before.before.before in
+    let read = c in
     rw (c.angle_in.ensures, c.digits_behind.ensures)
     (angle_read _ _ (sym read.digits_behind-digits.ensures ∙ read.digits.given.1))

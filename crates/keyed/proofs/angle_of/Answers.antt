@@ -30,16 +30,16 @@ returns-then-not-has_point c = rw (sym c.has_point.ensures ∙ not-true _ c.if-n
 pub returns : goal.returns
 unfolding angle_of
 returns c =
-    let at = c.before.before.before in
-    let n = length (word at) in
-    let whole = take_all (n - (n - 1)) (drop (n - 1) (word at)) (rw length-drop (omega arith)) in
-    rw (point at) (rw whole at c.angle_by-2.ensures)
+    let at = c in
+    let n = length (word (goal.at.returns c).Else-not-has_point) in
+    let whole = take_all (n - (n - 1)) (drop (n - 1) (word (goal.at.returns c).Else-not-has_point)) (rw length-drop (omega arith)) in
+    rw (point (goal.at.returns c).Else-not-has_point) (rw whole at c.angle_by-2.ensures)
 
 pub slice_bounds-angle_by-count : goal.slice_bounds-angle_by-count
-slice_bounds-angle_by-count c = omega (arith, three c)
+slice_bounds-angle_by-count c = omega (arith, three (goal.at.slice_bounds-angle_by-count c).Else-not-has_point)
 
 pub slice_bounds-angle_by-length : goal.slice_bounds-angle_by-length
 slice_bounds-angle_by-length c = sym (length-take-le _ _ (omega arith))
 
 pub overflow_sub-count : goal.overflow_sub-count
-overflow_sub-count c = omega (arith, three c.before)
+overflow_sub-count c = omega (arith, three (goal.at.overflow_sub-count c).Else-not-has_point)

@@ -24,7 +24,7 @@ digit : (c : Else-not-is_digit) → is_digit (byte c) ≡ true
 digit c = sym c.is_digit.ensures ∙ not-false _ c.if-not-is_digit.false-raw
 
 pub overflow_sub-byte : goal.overflow_sub-byte
-overflow_sub-byte c = (digit_from (byte c) (digit c)).0
+overflow_sub-byte c = (digit_from (byte (goal.at.overflow_sub-byte c).Else-not-is_digit) (digit (goal.at.overflow_sub-byte c).Else-not-is_digit)).0
 
 most : (c : Else-not-is_digit) → byte c - code "0" ≤ 9
 most c = let h = (digit_from (byte c) (digit c)).1 in omega (arith, h)
@@ -35,15 +35,15 @@ sum c = omega (arith, most c, c.loop-i.invariant.small)
 pub returns-then-not-is_digit : goal.returns-then-not-is_digit
 unfolding digits_behind
 returns-then-not-is_digit c =
-    let turn = c.before.before.before in
+    let turn = c in
     let no = not_all turn.loop-i.invariant turn.loop-i-test.true (sym c.is_digit.ensures ∙ not-true _ c.if-not-is_digit.true-raw) in
     rw (no, and-false)
 
 pub loop-i-preserved : goal.loop-i-preserved
 unfolding told
 loop-i-preserved c =
-    let turn = c.before.before.before.before in
-    rw c.lesser-value.ensures (one_more turn.loop-i.invariant turn.loop-i-test.true (digit c.before))
+    let turn = c in
+    rw c.lesser-value.ensures (one_more turn.loop-i.invariant turn.loop-i-test.true (digit (goal.at.loop-i-preserved c).Else-not-is_digit))
 
 pub returns : goal.returns
 unfolding digits_behind told
@@ -58,7 +58,7 @@ pub overflow_mul-value : goal.overflow_mul-value
 overflow_mul-value c = omega (arith, c.loop-i.invariant.small)
 
 pub overflow_cast-byte : goal.overflow_cast-byte
-overflow_cast-byte c = Fits-le (most c) (Fits-lit tt)
+overflow_cast-byte c = Fits-le (most (goal.at.overflow_cast-byte c).Else-not-is_digit) (Fits-lit tt)
 
 pub overflow_add-value : goal.overflow_add-value
-overflow_add-value c = Fits-le (sum c) (Fits-lit tt)
+overflow_add-value c = Fits-le (sum (goal.at.overflow_add-value c).Else-not-is_digit) (Fits-lit tt)

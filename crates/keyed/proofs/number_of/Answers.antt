@@ -12,7 +12,7 @@ returns-then-word-gt-MOST_DIGITS c = rw (lt-leb _ _ c.if-word-gt-MOST_DIGITS.tru
 
 pub returns-then-value-ge-BEYOND : goal.returns-then-value-ge-BEYOND
 returns-then-value-ge-BEYOND c =
-    let read = c.before.before in
+    let read = c in
     sym (number_beyond _ (sym read.digits_behind-digits.ensures ∙ read.digits.given.1) c.if-value-ge-BEYOND.true)
 
 pub returns-in-NoDigits : goal.returns-in-NoDigits
@@ -20,6 +20,6 @@ returns-in-NoDigits c = sym (number_none _ (sym c.digits_behind-digits.ensures �
 
 pub returns-else-value-ge-BEYOND : goal.returns-else-value-ge-BEYOND
 returns-else-value-ge-BEYOND c =
-    let read = c.before.before in
+    let read = c in
     let digits = read.before.before in
     sym (number_read _ digits.if-word-gt-MOST_DIGITS.false (sym digits.digits_behind-digits.ensures ∙ read.digits.given.1) c.if-value-ge-BEYOND.false)

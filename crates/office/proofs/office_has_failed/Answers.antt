@@ -6,32 +6,78 @@ use Rattle.office.specs.Packed.{has_failed}
 use Rattle.office.proofs.Asked.{no_check}
 use Rattle.office.proofs.office_has_failed.Goals as goal
 
+pub has_failed-requires : goal.has_failed-requires
+unfolding has_failed
+has_failed-requires c = search rules
+
+pub has_failed-requires-in-2 : goal.has_failed-requires-in-2
+unfolding has_failed
+has_failed-requires-in-2 c = search rules
+
+pub has_failed-requires-in-4 : goal.has_failed-requires-in-4
+unfolding has_failed
+has_failed-requires-in-4 c = search rules
+
+pub has_failed-requires-in-8 : goal.has_failed-requires-in-8
+unfolding has_failed
+has_failed-requires-in-8 c = search rules
+
+pub has_failed-requires-in-16 : goal.has_failed-requires-in-16
+unfolding has_failed
+has_failed-requires-in-16 c = search rules
+
+pub has_failed-requires-in-32 : goal.has_failed-requires-in-32
+unfolding has_failed
+has_failed-requires-in-32 c = search rules
+
+pub has_failed-requires-in-64 : goal.has_failed-requires-in-64
+unfolding has_failed
+has_failed-requires-in-64 c = search rules
+
+pub has_failed-requires-in-128 : goal.has_failed-requires-in-128
+unfolding has_failed
+has_failed-requires-in-128 c = search rules
+
+pub has_failed-requires-in-256 : goal.has_failed-requires-in-256
+unfolding has_failed
+has_failed-requires-in-256 c = search rules
+
 pub returns-in-1 : goal.returns-in-1
+unfolding has_failed
 returns-in-1 c = rw c.in_default.keys1 c.has_failed.ensures
 
 pub returns-in-2 : goal.returns-in-2
+unfolding has_failed
 returns-in-2 c = rw c.in_default.keys2 c.has_failed-in-2.ensures
 
 pub returns-in-4 : goal.returns-in-4
+unfolding has_failed
 returns-in-4 c = rw c.in_default.keys3 c.has_failed-in-4.ensures
 
 pub returns-in-8 : goal.returns-in-8
+unfolding has_failed
 returns-in-8 c = rw c.in_default.keys4 c.has_failed-in-8.ensures
 
 pub returns-in-16 : goal.returns-in-16
+unfolding has_failed
 returns-in-16 c = rw c.in_default.keys5 c.has_failed-in-16.ensures
 
 pub returns-in-32 : goal.returns-in-32
+unfolding has_failed
 returns-in-32 c = rw c.in_default.keys6 c.has_failed-in-32.ensures
 
 pub returns-in-64 : goal.returns-in-64
+unfolding has_failed
 returns-in-64 c = rw c.in_default.keys7 c.has_failed-in-64.ensures
 
 pub returns-in-128 : goal.returns-in-128
+unfolding has_failed
 returns-in-128 c = rw c.in_default.keys8 c.has_failed-in-128.ensures
 
 pub returns-in-256 : goal.returns-in-256
+unfolding has_failed
 returns-in-256 c = rw c.in_default.keys9 c.has_failed-in-256.ensures
 
 pub returns-in_default : goal.returns-in_default
+unfolding has_failed
 returns-in_default c = sym (no_check c.args.failures c.args.check checks (search rules))

@@ -5,4 +5,4 @@ use Rattle.rules.proofs.Replies.{number_below}
 use Rattle.office.proofs.packed.Goals as goal
 
 pub overflow_add-result-2 : goal.overflow_add-result-2
-overflow_add-result-2 c = let given = c.before.before in omega (arith, given.requires, c.number_of-number.ensures, number_below given.args.answer)
+overflow_add-result-2 c = let given = c in omega (arith, given.requires, c.number_of-number.ensures, number_below given.args.answer)

@@ -9,40 +9,34 @@ use lib.ListN.{length, set}
 use borrow.Rule.Slice.PartMut.{same_len_mid}
 use Rattle.rules.specs.Beyond.{Put, figures}
 use Rattle.rules.proofs.Putting.{then_byte, then_text, put_length}
-use Rattle.office.proofs.put_figures.Goals.{After-put_pair, After-put_shape, Start}
+use Rattle.office.proofs.put_figures.Goals.{After-put_pair}
 use Rattle.office.proofs.put_figures.Goals as goal
-
-abbrev start : After-put_pair → Start
-start c = c.before.before.before.before
-
-abbrev pair : After-put_shape → After-put_pair
-pair c = c.before.before.before.before
 
 -- the first three figures, and the buffer when they are put
 abbrev three : After-put_pair → List Float
-three c = let d = (start c).args.drawn.drawing in d.R ∷ d.H ∷ d.distance ∷ []
+three c = let d = c.args.drawn.drawing in d.R ∷ d.H ∷ d.distance ∷ []
 
 abbrev after : After-put_pair → List Float
-after c = set c.put_pair.new.1.1.0 2 (start c).args.drawn.drawing.distance
+after c = set c.put_pair.new.1.1.0 2 c.args.drawn.drawing.distance
 
-put : (c : After-put_pair) → Put (three c) (start c).args.out.now 3 (after c)
-put c = then_byte _ (record { counted = refl; holds = c.put_pair.ensures }) (omega (arith, (start c).requires))
+put : (c : After-put_pair) → Put (three c) c.args.out.now 3 (after c)
+put c = then_byte _ (record { counted = refl; holds = c.put_pair.ensures }) (omega (arith, c.requires))
 
-kept : (c : After-put_pair) → length (after c) ≡ length (start c).args.out.now
-kept c = put_length (put c) (omega (arith, (start c).requires))
+kept : (c : After-put_pair) → length (after c) ≡ length c.args.out.now
+kept c = put_length (put c) (omega (arith, c.requires))
 
 pub slice_bounds-put_shape-count : goal.slice_bounds-put_shape-count
-slice_bounds-put_shape-count c = let two = c.before.before in omega (arith, (start two).requires, kept two)
+slice_bounds-put_shape-count c = let two = c in omega (arith, two.requires, kept two)
 
 pub put_shape-requires : goal.put_shape-requires
-put_shape-requires c = let two = c.before.before.before in omega (arith, (start two).requires, kept two)
+put_shape-requires c = let two = c in omega (arith, two.requires, kept two)
 
 pub shape_of-out : goal.shape_of-out
 shape_of-out c =
-    let d = c.before.before in
-    let buffer = after (pair d) in
-    same_len_mid 3 (length buffer - 3) buffer d.put_shape.new.1.0 d.put_shape.auto.1.0 ∙ kept (pair d)
+    let d = c in
+    let buffer = after d in
+    same_len_mid 3 (length buffer - 3) buffer d.put_shape.new.1.0 d.put_shape.auto.1.0 ∙ kept d
 
 pub returns : goal.returns
 unfolding figures
-returns c = (then_text (put (pair c.before.before)) (record { counted = refl; holds = c.put_shape.ensures })).holds
+returns c = (then_text (put (goal.at.returns c).After-put_pair) (record { counted = refl; holds = c.put_shape.ensures })).holds

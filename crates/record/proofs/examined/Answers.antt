@@ -12,7 +12,7 @@ use Rattle.record.proofs.examined.Goals as goal
 -- what is answered of the wall and its loads, by what is answered of the wall alone
 is : (c : After-is_worked) → let start = c.args in
     examined start.wall start.loads ≡ (c.wall_answer-answer.result or_else refused_load (first_unfit start.wall 1 start.loads))
-is c = let d = c.before in rw d.wall_answer-answer.ensures (examined_is _ _ (omega (arith, d.well-formed)))
+is c = let d = c.before in rw d.wall_answer-answer.ensures (examined_is _ _ (omega (arith, d.well_formed)))
 
 pub returns-then-not-is_worked : goal.returns-then-not-is_worked
 returns-then-not-is_worked c = sym (is c.before ∙ rw (sym c.is_worked.ensures ∙ not-true _ c.if-not-is_worked.true-raw))

@@ -18,12 +18,12 @@ loop-i-init c = (omega arith, refl)
 
 -- the load is judged, and then those behind it
 next : (c : After-load_fits) → let d = c.before.before.before in let i = d.loop-i.i in let start = d.args in
-    first_unfit start.wall 1 start.t2 ≡ cond c.load_fits.result (first_unfit start.wall (suc (suc i)) (drop (suc i) start.t2)) (suc i)
+    first_unfit start.wall 1 start.loads ≡ cond c.load_fits.result (first_unfit start.wall (suc (suc i)) (drop (suc i) start.loads)) (suc i)
 unfolding first_unfit
 next c =
     let d = c.before.before.before in
-    let full = d.well-formed.1.0.1.0.1 in
-    d.loop-i.invariant.1 ∙ rw (drop-cons d.args.t2 d.loop-i.i [] (omega arith), ← c.load_fits.ensures)
+    let full = d.well_formed.1.0.1.0.1 in
+    d.loop-i.invariant.1 ∙ rw (drop-cons d.args.loads d.loop-i.i [] (omega arith), ← c.load_fits.ensures)
 
 pub returns-then-not-load_fits : goal.returns-then-not-load_fits
 returns-then-not-load_fits c = let first = rw (not-true c.load_fits.result c.if-not-load_fits.true-raw) at (next c.before) in omega arith
@@ -35,6 +35,6 @@ pub returns : goal.returns
 unfolding first_unfit
 returns c =
     let start = c.before.before in
-    let full = start.well-formed.1.0.1.0.1 in
-    let past : length start.args.t2 ≤ c.loop-i.i = omega arith in
+    let full = start.well_formed.1.0.1.0.1 in
+    let past : length start.args.loads ≤ c.loop-i.i = omega arith in
     sym (c.loop-i.invariant.1 ∙ rw drop_of_length-le)

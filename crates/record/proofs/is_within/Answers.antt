@@ -7,32 +7,32 @@ use Rattle.record.proofs.is_within.Goals as goal
 
 pub returns-then-low-n : goal.returns-then-low-n
 unfolding within
-returns-then-low-n c wall e = rw (c.range.given.1, le-leb _ _ c.if-low-n.true)
+returns-then-low-n c wall e = rw (c.in-Between.is, le-leb _ _ c.if-low-n.true)
 
 pub returns-else-low-n : goal.returns-else-low-n
 unfolding within
-returns-else-low-n c wall e = rw (c.range.given.1, lt-leb _ _ c.if-low-n.false)
+returns-else-low-n c wall e = rw (c.in-Between.is, lt-leb _ _ c.if-low-n.false)
 
 pub returns-in-UpToTop : goal.returns-in-UpToTop
 unfolding within measures_of
-returns-in-UpToTop c wall e = rw (c.enum_told.given.1, e)
+returns-in-UpToTop c wall e = rw (c.in-UpToTop.is, e)
 
 pub returns-then-measures-gt0 : goal.returns-then-measures-gt0
 unfolding within measures_of
-returns-then-measures-gt0 c wall e = rw (c.enum_told-in-AlongBase-1.given.1, lt-ltb _ _ (rw e at c.if-measures-gt0.true), e)
+returns-then-measures-gt0 c wall e = rw (c.in-AlongBase.is, lt-ltb _ _ (rw e at c.if-measures-gt0.true), e)
 
 pub returns-else-measures-gt0 : goal.returns-else-measures-gt0
 unfolding within measures_of
-returns-else-measures-gt0 c wall e = rw (c.enum_told-in-AlongBase-1.given.1, le-ltb _ _ (rw e at c.if-measures-gt0.false))
+returns-else-measures-gt0 c wall e = rw (c.in-AlongBase.is, le-ltb _ _ (rw e at c.if-measures-gt0.false))
 
 pub returns-then-measures-gt0-2 : goal.returns-then-measures-gt0-2
 unfolding within measures_of
-returns-then-measures-gt0-2 c wall e = rw (c.range-in-UnderBase-1.given.1, lt-ltb _ _ (rw e at c.if-measures-gt0-2.true), e)
+returns-then-measures-gt0-2 c wall e = rw (c.in-UnderBase.is, lt-ltb _ _ (rw e at c.if-measures-gt0-2.true), e)
 
 pub returns-else-measures-gt0-2 : goal.returns-else-measures-gt0-2
 unfolding within measures_of
-returns-else-measures-gt0-2 c wall e = rw (c.range-in-UnderBase-1.given.1, le-ltb _ _ (rw e at c.if-measures-gt0-2.false))
+returns-else-measures-gt0-2 c wall e = rw (c.in-UnderBase.is, le-ltb _ _ (rw e at c.if-measures-gt0-2.false))
 
 pub returns-in-ABar : goal.returns-in-ABar
 unfolding within
-returns-in-ABar c wall e = rw c.enum_told-in-ABar-1.given.1 c.is_bar.ensures
+returns-in-ABar c wall e = rw c.in-ABar.is c.is_bar.ensures

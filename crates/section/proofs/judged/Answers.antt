@@ -16,14 +16,14 @@ bounded c = (of_workable c.args.section (rw (passed c) tt)).bounded
 
 pub returns-then-is_workable : goal.returns-then-is_workable
 unfolding member_under verdict_of
-returns-then-is_workable c = rw (c.steel_of.ensures, c.shear_fails.ensures, passed c.before.before)
+returns-then-is_workable c = rw (c.steel_of.ensures, c.shear_fails.ensures, passed (goal.at.returns-then-is_workable c).Then-is_workable)
 
 pub returns-else-is_workable : goal.returns-else-is_workable
 unfolding verdict_of
 returns-else-is_workable c = rw (sym c.is_workable.ensures ∙ c.if-is_workable.false)
 
 pub steel_of-requires : goal.steel_of-requires
-steel_of-requires c = bounded c
+steel_of-requires c = bounded (goal.at.steel_of-requires c).Then-is_workable
 
 pub shear_fails-requires : goal.shear_fails-requires
-shear_fails-requires c = bounded c.before
+shear_fails-requires c = bounded (goal.at.shear_fails-requires c).Then-is_workable

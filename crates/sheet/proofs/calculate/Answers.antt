@@ -8,7 +8,7 @@ use Rattle.rules.specs.JobFile.{wall_count}
 use Rattle.rules.specs.Answered.{accepted}
 use Rattle.rules.specs.SheetLine.{line_numbers}
 use Rattle.sheet.proofs.Outcomes.{refused, passed, job_refused, too_short, all_worked}
-use Rattle.sheet.proofs.calculate.Goals.{Else-not-is_worked, Else-out-walls, Start}
+use Rattle.sheet.proofs.calculate.Goals.{Else-not-is_worked, Else-out-walls}
 use Rattle.sheet.proofs.calculate.Goals as goal
 
 pub returns-then-not-is_worked : goal.returns-then-not-is_worked
@@ -16,22 +16,19 @@ returns-then-not-is_worked c =
     let found = c.first_refusal-first in
     rw found.ensures (job_refused _ _ (refused found.ensures c.is_worked.ensures c.if-not-is_worked.true-raw))
 
-abbrev start : (c : Else-not-is_worked) → Start
-start c = c.before.before.before.before
-
 -- the job has passed
-worked : (c : Else-not-is_worked) → accepted (start c).args.job.now ≡ true
+worked : (c : Else-not-is_worked) → accepted c.args.job.now ≡ true
 worked c = passed c.first_refusal-first.ensures c.is_worked.ensures c.if-not-is_worked.false-raw
 
 pub returns-then-out-walls : goal.returns-then-out-walls
-returns-then-out-walls c = too_short _ _ (worked c.before.before) (rw (← c.wall_count-walls.ensures) c.if-out-walls.true)
+returns-then-out-walls c = too_short _ _ (worked (goal.at.returns-then-out-walls c).Else-not-is_worked) (rw (← c.wall_count-walls.ensures) c.if-out-walls.true)
 
 -- and the buffer has the room
-room : (c : Else-out-walls) → let args = (start c.before.before).args in line_numbers * wall_count args.job.now ≤ length args.out.now
+room : (c : Else-out-walls) → let args = c.args in line_numbers * wall_count args.job.now ≤ length args.out.now
 room c = rw (← c.wall_count-walls.ensures) c.if-out-walls.false
 
 pub returns : goal.returns
-returns c = let tested = c.before.before.before in all_worked _ _ (worked tested.before.before) (room tested) c.put_lines.ensures
+returns c = let tested = c in all_worked _ _ (worked (goal.at.returns c).Else-not-is_worked) (room (goal.at.returns c).Else-out-walls) c.put_lines.ensures
 
 pub put_lines-requires : goal.put_lines-requires
-put_lines-requires c = (rw (worked c.before.before.before) tt, room c.before)
+put_lines-requires c = (rw (worked (goal.at.put_lines-requires c).Else-not-is_worked) tt, room (goal.at.put_lines-requires c).Else-out-walls)

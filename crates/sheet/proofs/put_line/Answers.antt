@@ -14,23 +14,23 @@ use Rattle.sheet.proofs.put_line.Goals as goal
 
 pub loop-k-init : goal.loop-k-init
 unfolding onto
-loop-k-init c = (omega arith, c.well-formed.0.1.0.1, refl, refl)
+loop-k-init c = (omega arith, c.well_formed.0.1.0.1, refl, refl)
 
 pub loop-k-preserved : goal.loop-k-preserved
 loop-k-preserved c =
-    let start = c.before.before.before in
+    let start = c in
     let loop = c.loop-k in (
       omega arith,
       loop.invariant.1,
       simp length-set loop.invariant.2,
-      rw (to_z-of_z w64 (get_or start.args.t1 loop.k (pos 0)) (record { sfits = c.out.given }), loop.invariant.3)
-          (onto_one_more start.args.t1 start.args.out.now loop.k (pos 0) (omega (arith, loop.invariant.1)) (omega (arith, start.requires, loop.invariant.1))),
+      rw (to_z-of_z w64 (get_or start.args.numbers loop.k (pos 0)) (record { sfits = c.out.given }), loop.invariant.3)
+          (onto_one_more start.args.numbers start.args.out.now loop.k (pos 0) (omega (arith, loop.invariant.1)) (omega (arith, start.requires, loop.invariant.1))),
     )
 
 pub returns : goal.returns
 returns c =
     let loop = c.loop-k in
-    rw (take_all loop.k c.args.t1 (omega (arith, loop.invariant.1, c.loop-k-test.false))) at loop.invariant.3
+    rw (take_all loop.k c.args.numbers (omega (arith, loop.invariant.1, c.loop-k-test.false))) at loop.invariant.3
 
 pub shape_of-out : goal.shape_of-out
 shape_of-out c = c.loop-k.invariant.2

@@ -26,21 +26,21 @@ room c = c.if-out-lt-FILE_ROOM.false
 
 pub returns-then-not-is_worked : goal.returns-then-not-is_worked
 returns-then-not-is_worked c =
-    let asked = c.before.before.before.before in
+    let asked = c in
     let taken = asked.before.before.before.before in
     let refused : T (not (is_worked taken.take_apart-taken.result.answer)) = rw (sym asked.is_worked.ensures ∙ not-true _ asked.if-not-is_worked.true-raw) tt in
-    put_fitting file_room _ (room taken)
+    put_fitting file_room _ (room (goal.at.returns-then-not-is_worked c).After-take_apart-taken)
     (rw (← refusal_printed taken.take_apart-taken.ensures (omega arith) (omega arith) refused)
     (put_whole line_room _ (omega (arith, room taken)) c.refusal_text.ensures))
 
 pub returns : goal.returns
 returns c =
-    let asked = c.before.before.before.before.before.before in
+    let asked = c in
     let taken = asked.before.before.before.before in
     let apart = taken.take_apart-taken.ensures in
     let worked : T (is_worked taken.take_apart-taken.result.answer) = rw (sym asked.is_worked.ensures ∙ not-false _ asked.if-not-is_worked.false-raw) tt in
     let small = rewritten_small _ (records_taken apart worked).0 in
-    put_fitting file_room _ (room taken) (written_again apart worked c.write-written.ensures (omega (arith, small, room taken))).1
+    put_fitting file_room _ (room (goal.at.returns c).After-take_apart-taken) (written_again apart worked c.write-written.ensures (omega (arith, small, room taken))).1
 
 pub slice_bounds-walls-end : goal.slice_bounds-walls-end
 slice_bounds-walls-end c = put_within c.take_apart-taken.ensures.walls_put

@@ -13,7 +13,7 @@ returns-then-out-lt-SHEET_ROOM c = put_nothing _ _ c.if-out-lt-SHEET_ROOM.true
 pub returns-then-not-is_worked : goal.returns-then-not-is_worked
 unfolding printed
 returns-then-not-is_worked c =
-    let chosen = c.before.before.before.before in
+    let chosen = c in
     let found = chosen.before.before in
     let room = found.if-out-lt-SHEET_ROOM.false in
     put_fitting sheet_room _ room
@@ -22,11 +22,11 @@ returns-then-not-is_worked c =
 
 pub put_texts-requires : goal.put_texts-requires
 put_texts-requires c =
-    let chosen = c.before in
+    let chosen = c in
     let found = chosen.before.before in
     (rw (passed found.first_refusal-answer.ensures chosen.is_worked.ensures chosen.if-not-is_worked.false-raw) tt, found.if-out-lt-SHEET_ROOM.false)
 
 pub returns : goal.returns
 returns c =
-    let chosen = c.before.before.before.before in
+    let chosen = c in
     put_fitting sheet_room _ chosen.if-out-lt-SHEET_ROOM.false c.put_texts.ensures

@@ -18,10 +18,10 @@ soil : (c : Else-not-is_soil) → is_soil c.args.angle ≡ true
 soil c = sym c.is_soil.ensures ∙ not-false _ c.if-not-is_soil.false-raw
 
 pub sine_at-sine-requires : goal.sine_at-sine-requires
-sine_at-sine-requires c = let h = soil_from c.args.angle (soil c) in omega (arith, h.1)
+sine_at-sine-requires c = let h = soil_from c.args.angle (soil (goal.at.sine_at-sine-requires c).Else-not-is_soil) in omega (arith, h.1)
 
 pub returns : goal.returns
 unfolding coefficients_of
 returns c =
-    let found = c.before.before in
+    let found = c in
     rw (c.active_by-active.ensures, c.rest_by-rest.ensures, found.sine_at-sine.ensures.0, soil found.before)

@@ -18,7 +18,7 @@ judged c = rw (c.is_worked.ensures, c.blocks-borne.ensures) (tells _ _)
 
 pub returns-then-not-is_worked : goal.returns-then-not-is_worked
 returns-then-not-is_worked c =
-    rw c.blocks-borne.ensures (line_refused _ _ (sym (judged c.before) ∙ not-true _ c.if-not-is_worked.true-raw) _)
+    rw c.blocks-borne.ensures (line_refused _ _ (sym (judged (goal.at.returns-then-not-is_worked c).After-is_worked) ∙ not-true _ c.if-not-is_worked.true-raw) _)
 
 accepted : (c : Else-not-is_worked) → let start = c.before.before.before.before in fits start.args.wall start.args.loads ≡ true
 accepted c = sym (judged c.before) ∙ not-false _ c.if-not-is_worked.false-raw
@@ -28,7 +28,7 @@ fitted : (c : Else-not-is_worked) → let start = c.before.before.before.before 
 fitted c = fit _ _ (rw (accepted c) tt)
 
 pub worked-requires : goal.worked-requires
-worked-requires c = let f = fitted c in (f.wall_fits, rw c.blocks-borne.ensures (bears _ _ f), rw c.blocks-borne.ensures (fills _ _ f))
+worked-requires c = let f = fitted (goal.at.worked-requires c).Else-not-is_worked in (f.wall_fits, rw c.blocks-borne.ensures (bears _ _ f), rw c.blocks-borne.ensures (fills _ _ f))
 
 -- the numbers of the wall that is worked are its line's
 numbers : (c : After-worked) → let start = c.before.before.before.before.before in
@@ -38,10 +38,10 @@ numbers c = rw (c.worked.ensures, c.blocks-borne.ensures, worked-is _ _ (fitted 
 
 pub numbers_of-requires : goal.numbers_of-requires
 numbers_of-requires c =
-    let start = c.before.before.before.before.before in
-    rw (numbers c) (line_small _ (omega (arith, start.ranges.number)) (fitted c.before))
+    let start = c in
+    rw (numbers (goal.at.numbers_of-requires c).After-worked) (line_small _ (omega (arith, start.ranges.number)) (fitted (goal.at.numbers_of-requires c).Else-not-is_worked))
 
 pub returns : goal.returns
 returns c =
-    rw (c.Numbers-of.ensures, numbers c.before, c.blocks-borne.ensures)
-    (line-worked _ _ (accepted c.before.before) _)
+    rw (c.Numbers-of.ensures, numbers (goal.at.returns c).After-worked, c.blocks-borne.ensures)
+    (line-worked _ _ (accepted (goal.at.returns c).Else-not-is_worked) _)

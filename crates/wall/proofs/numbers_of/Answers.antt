@@ -10,7 +10,7 @@ use Rattle.whole.proofs.Integer.{back}
 use Rattle.whole.proofs.Lists.{All}
 use Rattle.rules.specs.SheetLine.{numbers_by}
 use Rattle.rules.proofs.Sizes.{Small}
-use Rattle.wall.proofs.numbers_of.Goals.{After-failures_of-failures, After-struct_known-12-1, After-struct_known-6-1}
+use Rattle.wall.proofs.numbers_of.Goals.{After-failures_of-failures}
 use Rattle.wall.proofs.numbers_of.Goals as goal
 
 -- small numbers are read back from their bits
@@ -25,58 +25,50 @@ small : (c : After-failures_of-failures) → let w = c.args.worked in
 unfolding numbers_by
 small c = omega (arith, c.requires)
 
--- where the sixth figure is cast the call lies six steps back
-abbrev called : After-struct_known-6-1 → After-failures_of-failures
-called c = c.before.before.before.before.before.before
-
--- and six more steps lie before the twelfth
-abbrev sixth : After-struct_known-12-1 → After-struct_known-6-1
-sixth c = c.before.before.before.before.before.before
-
 pub returns : goal.returns
 unfolding numbers_by
 returns c =
-    let first = called (sixth c.before.before.before) in
+    let first = called c in
     rw first.failures_of-failures.ensures (read_back _ first.pre)
 
 pub overflow_cast-result-3 : goal.overflow_cast-result-3
-overflow_cast-result-3 c = omega (arith, small c.before)
+overflow_cast-result-3 c = omega (arith, small (goal.at.overflow_cast-result-3 c).After-failures_of-failures)
 
 pub overflow_cast-result-4 : goal.overflow_cast-result-4
-overflow_cast-result-4 c = omega (arith, small c.before.before)
+overflow_cast-result-4 c = omega (arith, small (goal.at.overflow_cast-result-4 c).After-failures_of-failures)
 
 pub overflow_cast-result-5 : goal.overflow_cast-result-5
-overflow_cast-result-5 c = omega (arith, small c.before.before.before)
+overflow_cast-result-5 c = omega (arith, small (goal.at.overflow_cast-result-5 c).After-failures_of-failures)
 
 pub overflow_cast-result-6 : goal.overflow_cast-result-6
-overflow_cast-result-6 c = omega (arith, small c.before.before.before.before)
+overflow_cast-result-6 c = omega (arith, small (goal.at.overflow_cast-result-6 c).After-failures_of-failures)
 
 pub overflow_cast-result-7 : goal.overflow_cast-result-7
-overflow_cast-result-7 c = omega (arith, small c.before.before.before.before.before)
+overflow_cast-result-7 c = omega (arith, small (goal.at.overflow_cast-result-7 c).After-failures_of-failures)
 
 pub overflow_cast-result-8 : goal.overflow_cast-result-8
-overflow_cast-result-8 c = omega (arith, small (called c))
+overflow_cast-result-8 c = omega (arith, small (goal.at.overflow_cast-result-8 c).After-failures_of-failures)
 
 pub overflow_cast-result-9 : goal.overflow_cast-result-9
-overflow_cast-result-9 c = omega (arith, small (called c.before))
+overflow_cast-result-9 c = omega (arith, small (goal.at.overflow_cast-result-9 c).After-failures_of-failures)
 
 pub overflow_cast-result-10 : goal.overflow_cast-result-10
-overflow_cast-result-10 c = omega (arith, small (called c.before.before))
+overflow_cast-result-10 c = omega (arith, small (goal.at.overflow_cast-result-10 c).After-failures_of-failures)
 
 pub overflow_cast-result-11 : goal.overflow_cast-result-11
-overflow_cast-result-11 c = omega (arith, small (called c.before.before.before))
+overflow_cast-result-11 c = omega (arith, small (goal.at.overflow_cast-result-11 c).After-failures_of-failures)
 
 pub overflow_cast-result-12 : goal.overflow_cast-result-12
-overflow_cast-result-12 c = omega (arith, small (called c.before.before.before.before))
+overflow_cast-result-12 c = omega (arith, small (goal.at.overflow_cast-result-12 c).After-failures_of-failures)
 
 pub overflow_cast-result-13 : goal.overflow_cast-result-13
-overflow_cast-result-13 c = omega (arith, small (called c.before.before.before.before.before))
+overflow_cast-result-13 c = omega (arith, small (goal.at.overflow_cast-result-13 c).After-failures_of-failures)
 
 pub overflow_cast-result-14 : goal.overflow_cast-result-14
-overflow_cast-result-14 c = omega (arith, small (called (sixth c)))
+overflow_cast-result-14 c = omega (arith, small (goal.at.overflow_cast-result-14 c).After-failures_of-failures)
 
 pub overflow_cast-result-15 : goal.overflow_cast-result-15
-overflow_cast-result-15 c = omega (arith, small (called (sixth c.before)))
+overflow_cast-result-15 c = omega (arith, small (called c))
 
 pub overflow_cast-result-16 : goal.overflow_cast-result-16
-overflow_cast-result-16 c = omega (arith, small (called (sixth c.before.before)))
+overflow_cast-result-16 c = omega (arith, small (called c))

@@ -3,6 +3,6 @@ use Rattle.std.proofs.Common.{rules}
 use Rattle.wide.specs.Value.{value}
 use Rattle.wide.proofs.of.Goals as goal
 
-pub of_spec : {M : Type 1} → statement M
+pub returns : goal.returns
 unfolding value
-of_spec = goal.close (goal.spec (λ c. search rules))
+returns c = search rules

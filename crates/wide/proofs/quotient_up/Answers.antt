@@ -24,30 +24,24 @@ returns-then-is_long c =
     let some : 0 < d = no d 0 test.is_zero.ensures test.if-is_zero.false in
     omega (arith, down_greatest {a = n} {n = 2 ^ 64} some (yes _ _ c.is_long.ensures c.if-is_long.true), down_nearest n d, nearest_up n d)
 
-abbrev start : After-divided-by → Start
-start c = c.before.before.before.before.before
+one_more : (c : Else-is_zero-2)
+    → c.divided-by.result.quotient + 1 ≡ rounded_up (value c.args.n) (value c.args.d)
+one_more c =
+    let rest = value c.divided-by.result.rest in
+    let some = no rest 0 c.is_zero-2.ensures c.if-is_zero-2.false in
+    up_only (value c.args.n) (omega arith) (omega arith) (omega arith)
 
 pub returns-then-is_zero-2 : goal.returns-then-is_zero-2
 returns-then-is_zero-2 c =
-    let by = c.before.before in
-    let rest = value by.divided-by.result.rest in
+    let rest = value c.divided-by.result.rest in
     let none = yes rest 0 c.is_zero-2.ensures c.if-is_zero-2.true in
-    omega (arith, up_only (value (start by).args.n) {b = value (start by).args.d} {n = by.divided-by.result.quotient} (omega arith) (omega arith) (omega arith))
-
-one_more : (c : Else-is_zero-2)
-    → let by = c.before.before in
-    by.divided-by.result.quotient + 1 ≡ rounded_up (value (start by).args.n) (value (start by).args.d)
-one_more c =
-    let by = c.before.before in
-    let rest = value by.divided-by.result.rest in
-    let some = no rest 0 c.is_zero-2.ensures c.if-is_zero-2.false in
-    up_only (value (start by).args.n) (omega arith) (omega arith) (omega arith)
+    omega (arith, up_only (value c.args.n) {b = value c.args.d} {n = c.divided-by.result.quotient} (omega arith) (omega arith) (omega arith))
 
 pub returns-then-by-lt18446744073709551615 : goal.returns-then-by-lt18446744073709551615
-returns-then-by-lt18446744073709551615 c = omega (arith, one_more c.before.before.before)
+returns-then-by-lt18446744073709551615 c = omega (arith, one_more (goal.at.returns-then-by-lt18446744073709551615 c).Else-is_zero-2)
 
 pub returns-else-by-lt18446744073709551615 : goal.returns-else-by-lt18446744073709551615
-returns-else-by-lt18446744073709551615 c = omega (arith, one_more c.before.before)
+returns-else-by-lt18446744073709551615 c = omega (arith, one_more (goal.at.returns-else-by-lt18446744073709551615 c).Else-is_zero-2)
 
 pub divided-by-requires : goal.divided-by-requires
 divided-by-requires c = no _ _ c.is_long.ensures c.if-is_long.false

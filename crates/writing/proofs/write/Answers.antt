@@ -10,34 +10,31 @@ use Rattle.rules.specs.Answered.{is_worked}
 use Rattle.rules.specs.WrittenFile.{records_fit, file_of}
 use Rattle.rules.proofs.Rewritten.{written_fits}
 use Rattle.writing.proofs.Writing.{not_written, all_written}
-use Rattle.writing.proofs.write.Goals.{Else-not-is_worked, Start}
+use Rattle.writing.proofs.write.Goals.{Else-not-is_worked}
 use Rattle.writing.proofs.write.Goals as goal
 
 pub returns-then-not-is_worked : goal.returns-then-not-is_worked
 returns-then-not-is_worked c = not_written c.writing_answer-answer.ensures (sym c.is_worked.ensures ∙ not-true _ c.if-not-is_worked.true-raw)
-
-abbrev start : Else-not-is_worked → Start
-start c = c.before.before.before.before.before.before
 
 -- nothing is refused
 worked : (c : Else-not-is_worked) → is_worked c.writing_answer-answer.result ≡ true
 worked c = sym c.is_worked.ensures ∙ not-false _ c.if-not-is_worked.false-raw
 
 -- so the records fit, and the buffer has the room
-fits : (c : Else-not-is_worked) → let lent = (start c).args in
+fits : (c : Else-not-is_worked) → let lent = c.args in
     T (records_fit lent.walls.now lent.loads.now) × (length (file_of lent.walls.now lent.loads.now) ≤ length lent.out.now)
 fits c =
-    let lent = (start c).args in
+    let lent = c.args in
     written_fits lent.walls.now lent.loads.now (length lent.out.now) (rw (← c.writing_answer-answer.ensures, worked c) tt)
 
 pub returns : goal.returns
 returns c =
-    let put = c.before.before.before in
+    let put = c in
     let answered = put.before.before in
-    all_written answered.writing_answer-answer.ensures (worked answered) c.file_bytes.ensures put.put_file.ensures
+    all_written answered.writing_answer-answer.ensures (worked (goal.at.returns c).Else-not-is_worked) c.file_bytes.ensures put.put_file.ensures
 
-pub write_spec : {M : Type 1} → statement M
-write_spec =
-    goal.close
-    (goal.spec
-    (λ c κs. tt) (λ c κs. tt) returns (λ c κs. fits c.before) (λ c κs. (fits c.before.before.before.before).0) (λ c. search rules) returns-2)
+pub put_file-requires : goal.put_file-requires
+put_file-requires c = fits (goal.at.put_file-requires c).Else-not-is_worked
+
+pub file_bytes-requires : goal.file_bytes-requires
+file_bytes-requires c = (fits (goal.at.file_bytes-requires c).Else-not-is_worked).0

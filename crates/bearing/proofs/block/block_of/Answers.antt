@@ -16,9 +16,9 @@ moment-is : (c : After-above_zero-2) → c.above_zero-2.result ≡ above_zero c.
 moment-is c = c.above_zero-2.ensures ∙ ap above_zero (to_z-of_z w64 c.args.totals.M6 (search rules))
 
 pub block_above_zero-requires : goal.block_above_zero-requires
-block_above_zero-requires c = rw (vertical-is c.before.before, moment-is c) c.requires.1
+block_above_zero-requires c = rw (vertical-is (goal.at.block_above_zero-requires c).After-above_zero, moment-is (goal.at.block_above_zero-requires c).After-above_zero-2) c.requires.1
 
 pub returns : goal.returns
 returns c =
-    let start = c.before.before.before.before.before in
-    c.block_above_zero.ensures ∙ rw (vertical-is c.before.before.before, moment-is c.before) (sym (whole_block _ _ _ start.requires.0))
+    let start = c in
+    c.block_above_zero.ensures ∙ rw (vertical-is (goal.at.returns c).After-above_zero, moment-is (goal.at.returns c).After-above_zero-2) (sym (whole_block _ _ _ start.requires.0))

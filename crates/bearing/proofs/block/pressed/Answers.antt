@@ -8,13 +8,13 @@ use Rattle.bearing.proofs.block.pressed.Goals as goal
 
 pub returns-then-greater-gt-GREATEST_PEAK : goal.returns-then-greater-gt-GREATEST_PEAK
 returns-then-greater-gt-GREATEST_PEAK c =
-    let d = c.before.before in
+    let d = c in
     let high : greatest_peak < d.greater.result = omega arith in
     rw c.no_block.ensures (not_given _ _ _ _ d.report-toe.ensures d.report-heel.ensures (rw d.greater.ensures at high))
 
 pub returns : goal.returns
 returns c =
-    let d = c.before in
+    let d = c in
     let low : d.greater.result ≤ greatest_peak = omega arith in
     is_given_lem _ _ _ _ d.report-toe.ensures d.report-heel.ensures (rw d.greater.ensures at low)
 

@@ -9,10 +9,10 @@ pub returns-then-one-other : goal.returns-then-one-other
 returns-then-one-other c = sym (other_length _ _ c.if-one-other.true)
 
 pub returns-then-one-i : goal.returns-then-one-i
-returns-then-one-i c = let turn = c.before.before.before in sym (one_unlike turn.loop-i.invariant turn.loop-i-test.true c.if-one-i.true)
+returns-then-one-i c = let turn = c in sym (one_unlike turn.loop-i.invariant turn.loop-i-test.true c.if-one-i.true)
 
 pub loop-i-preserved : goal.loop-i-preserved
-loop-i-preserved c = let turn = c.before.before.before in one_alike turn.loop-i.invariant turn.loop-i-test.true c.if-one-i.false
+loop-i-preserved c = let turn = c in one_alike turn.loop-i.invariant turn.loop-i-test.true c.if-one-i.false
 
 pub returns : goal.returns
 returns c = sym (all_alike c.loop-i.invariant c.loop-i-test.false)

@@ -4,7 +4,11 @@ use borrow.Author.Rules.{rules}
 use Rattle.whole.proofs.Factors.{two_fit, pairs_fit}
 use Rattle.forces.proofs.pushes.push.Goals as goal
 
-pub push_spec : {M : Type 1} → statement M
-push_spec =
-    goal.close (goal.spec (λ c. two_fit (omega arith)) (λ c. two_fit (omega arith)) (λ c. pairs_fit c.requires) (λ c κs. search rules)
-    (λ c. search rules))
+pub overflow_mul-k : goal.overflow_mul-k
+overflow_mul-k c = two_fit (omega arith)
+
+pub overflow_mul-a : goal.overflow_mul-a
+overflow_mul-a c = two_fit (omega arith)
+
+pub overflow_mul-k-2 : goal.overflow_mul-k-2
+overflow_mul-k-2 c = pairs_fit c.requires

@@ -10,7 +10,7 @@ product : (c : Start) → c.args.force * c.args.sixfold ≤ 3000000 * 100000
 product c = mul-le-mul c.requires.0 c.requires.1
 
 pub overflow_mul-force : goal.overflow_mul-force
-overflow_mul-force c = omega (arith, product c.before)
+overflow_mul-force c = omega (arith, product (goal.at.overflow_mul-force c).Start)
 
 pub signed-requires-2 : goal.signed-requires-2
-signed-requires-2 c = omega (arith, product c.before)
+signed-requires-2 c = omega (arith, product (goal.at.signed-requires-2 c).Start)

@@ -5,7 +5,7 @@ use borrow.Author.Rules.{rules}
 use Rattle.rules.specs.Forces.{push_rows}
 use Rattle.rules.proofs.Accepted.{wall_within}
 use Rattle.rules.proofs.Sizes.{Pushed, pushed}
-use Rattle.forces.proofs.rows.push_rows.Goals.{After-moist_push_below, Start}
+use Rattle.forces.proofs.rows.push_rows.Goals.{Start}
 use Rattle.forces.proofs.rows.push_rows.Goals as goal
 
 -- how big the pushes on the face are
@@ -16,18 +16,14 @@ sizes c = pushed (wall_within _ c.requires.0) _ _ _ c.requires.1.coefficient c.r
 foot : (c : Start) → 6 * c.args.dd ≤ 6000
 foot c = omega (arith, c.requires.2)
 
--- where the third push is known, the start lies five steps back
-abbrev third : After-moist_push_below → Start
-third c = c.before.before.before.before.before
-
 pub saturated_push-requires : goal.saturated_push-requires
 saturated_push-requires c =
-    let pre = (third c.before).requires in (pre.0, record { coefficient = pre.1.coefficient; height = omega arith; water = omega arith })
+    let pre = c.requires in (pre.0, record { coefficient = pre.1.coefficient; height = omega arith; water = omega arith })
 
 pub returns : goal.returns
 unfolding push_rows
 returns c =
-    let fourth = c.before.before in
+    let fourth = c in
     let third = fourth.before.before in
     let second = third.before.before in
     let first = second.before.before in
@@ -45,19 +41,19 @@ returns c =
     )
 
 pub overflow_mul-foot : goal.overflow_mul-foot
-overflow_mul-foot c = omega (arith, foot c)
+overflow_mul-foot c = omega (arith, foot (goal.at.overflow_mul-foot c).Start)
 
 pub across-requires : goal.across-requires
-across-requires c = omega (arith, sizes c.before)
+across-requires c = omega (arith, sizes (goal.at.across-requires c).Start)
 
 pub across-requires-2 : goal.across-requires-2
-across-requires-2 c = omega (arith, sizes c.before.before.before)
+across-requires-2 c = omega (arith, sizes (goal.at.across-requires-2 c).Start)
 
 pub across-requires-3 : goal.across-requires-3
-across-requires-3 c = omega (arith, sizes (third c))
+across-requires-3 c = omega (arith, sizes (goal.at.across-requires-3 c).Start)
 
 pub across-requires-4 : goal.across-requires-4
-across-requires-4 c = omega (arith, sizes (third c.before.before))
+across-requires-4 c = omega (arith, sizes (goal.at.across-requires-4 c).Start)
 
 pub across-requires-5 : goal.across-requires-5
-across-requires-5 c = omega (arith, sizes (third c.before.before.before.before))
+across-requires-5 c = omega (arith, sizes (goal.at.across-requires-5 c).Start)

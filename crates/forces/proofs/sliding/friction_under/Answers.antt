@@ -17,9 +17,9 @@ lasting-is c = c.above_zero.ensures ∙ ap above_zero (to_z-of_z c.ranges.lastin
 
 pub overflow_mul-field : goal.overflow_mul-field
 overflow_mul-field c =
-    let start = c.before.before in
-    two_fit (omega (arith, lasting-is c, above_most _ start.requires.1, wall_within _ start.requires.0))
+    let start = c in
+    two_fit (omega (arith, lasting-is (goal.at.overflow_mul-field c).After-above_zero, above_most _ start.requires.1, wall_within _ start.requires.0))
 
 pub returns : goal.returns
 unfolding friction_under
-returns c = rw (lasting-is c.before, c.field.ensures.0) at c.rounded_down.ensures
+returns c = rw (lasting-is (goal.at.returns c).After-above_zero, c.field.ensures.0) at c.rounded_down.ensures

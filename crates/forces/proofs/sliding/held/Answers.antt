@@ -22,15 +22,15 @@ push-is c = c.above_zero-push.ensures ∙ ap above_zero (to_z-of_z c.ranges.push
 pub overflow_add-holding : goal.overflow_add-holding
 overflow_add-holding c =
     let w = wall_within _ c.requires.0 in
-    omega (arith, friction-is c, passive_most w, friction_most w c.requires.1)
+    omega (arith, friction-is (goal.at.overflow_add-holding c).After-friction_under-friction, passive_most w, friction_most w c.requires.1)
 
 pub returns-then-field-eq-PROPPED : goal.returns-then-field-eq-PROPPED
 unfolding sliding_under is_propped
 returns-then-field-eq-PROPPED c =
     rw (
       c.excess.ensures,
-      push-is c.before.before.before,
-      friction-is c.before.before.before.before,
+      push-is (goal.at.returns-then-field-eq-PROPPED c).After-above_zero-push,
+      friction-is (goal.at.returns-then-field-eq-PROPPED c).After-friction_under-friction,
       c.passive_force-passive.ensures,
       ← c.field.ensures.0,
       eq-eqb _ _ c.if-field-eq-PROPPED.true,
@@ -41,15 +41,10 @@ pub returns-else-field-eq-PROPPED : goal.returns-else-field-eq-PROPPED
 unfolding sliding_under is_propped
 returns-else-field-eq-PROPPED c =
     rw (
-      push-is c.before.before,
-      friction-is c.before.before.before,
+      push-is (goal.at.returns-else-field-eq-PROPPED c).After-above_zero-push,
+      friction-is (goal.at.returns-else-field-eq-PROPPED c).After-friction_under-friction,
       c.passive_force-passive.ensures,
       ← c.field.ensures.0,
       ne_eqb _ _ c.if-field-eq-PROPPED.false,
       more_than,
     )
-
-pub held_spec : {M : Type 1} → statement M
-held_spec =
-    goal.close (goal.spec (λ c κs. search rules) (λ c κs. search rules) add-holding (λ c κs. search rules) (λ c κs. search rules) (λ c κs. search rules)
-    returns returns-2)

@@ -4,25 +4,21 @@ use borrow.Author.Rules.{rules}
 use Rattle.rules.specs.Forces.{passive, passive_depth}
 use Rattle.rules.proofs.Accepted.{WallWithin, wall_within}
 use Rattle.whole.proofs.Factors.{two_fit, pairs_fit}
-use Rattle.forces.proofs.sliding.passive_force.Goals.{After-field-6, Start}
+use Rattle.forces.proofs.sliding.passive_force.Goals.{After-field-6}
 use Rattle.forces.proofs.sliding.passive_force.Goals as goal
 
--- the ranges of the fields, where the last of them is read
-abbrev start : After-field-6 → Start
-start c = c.before.before.before.before.before.before.before
-
-within : (c : After-field-6) → WallWithin (start c).args.wall
-within c = wall_within _ (start c).requires
+within : (c : After-field-6) → WallWithin c.args.wall
+within c = wall_within _ c.requires
 
 pub returns : goal.returns
 unfolding passive passive_depth
 returns c = cc
 
 pub overflow_mul-field : goal.overflow_mul-field
-overflow_mul-field c = two_fit (omega (arith, within c))
+overflow_mul-field c = two_fit (omega (arith, within (goal.at.overflow_mul-field c).After-field-6))
 
 pub overflow_mul-depth : goal.overflow_mul-depth
-overflow_mul-depth c = two_fit (omega (arith, within c))
+overflow_mul-depth c = two_fit (omega (arith, within (goal.at.overflow_mul-depth c).After-field-6))
 
 pub overflow_mul-field-2 : goal.overflow_mul-field-2
-overflow_mul-field-2 c = pairs_fit (omega (arith, within c))
+overflow_mul-field-2 c = pairs_fit (omega (arith, within (goal.at.overflow_mul-field-2 c).After-field-6))

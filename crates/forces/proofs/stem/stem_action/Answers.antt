@@ -32,23 +32,23 @@ summed : (c : After-table_of_stem-table) {sum : ℤ} {weights : List ℤ} (colum
 summed c column e ok f =
     let start = c.before in
     read_back
-    (e ∙ sum_is (summable start) c.table_of_stem-table.ensures start.requires.1 start.well-formed.1.0.1.0.1 tenths column f ∙ stem_summed tenths column _ _) ok
+    (e ∙ sum_is (summable start) c.table_of_stem-table.ensures start.requires.1 start.well_formed.1.0.1.0.1 tenths column f ∙ stem_summed tenths column _ _) ok
 
 pub returns : goal.returns
 unfolding stem_action
 returns c =
-    let second = c.before.before.before.before in
+    let second = c in
     let first = second.before in
     cc (
-      summed first.before horizontal first.column_sum-shear.ensures first.column_sum-shear.type-inv refl,
-      summed first.before moment second.column_sum-moment.ensures second.column_sum-moment.type-inv refl,
+      summed first.before horizontal first.column_sum-shear.ensures first.column_sum-shear.type_inv refl,
+      summed first.before moment second.column_sum-moment.ensures second.column_sum-moment.type_inv refl,
     )
 
 pub table_of_stem-table-requires : goal.table_of_stem-table-requires
 table_of_stem-table-requires c = c.requires.0
 
 pub column_sum-shear-requires : goal.column_sum-shear-requires
-column_sum-shear-requires c = (omega arith, table-small c, light tt)
+column_sum-shear-requires c = (omega arith, table-small (goal.at.column_sum-shear-requires c).After-table_of_stem-table, light tt)
 
 pub column_sum-moment-requires : goal.column_sum-moment-requires
-column_sum-moment-requires c = (omega arith, table-small c.before, light tt)
+column_sum-moment-requires c = (omega arith, table-small (goal.at.column_sum-moment-requires c).After-table_of_stem-table, light tt)

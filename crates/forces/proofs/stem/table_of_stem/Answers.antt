@@ -16,13 +16,13 @@ fitted c = fit c.args.wall c.args.loads c.requires
 
 pub push_rows-pushes-requires : goal.push_rows-pushes-requires
 push_rows-pushes-requires c =
-    let f = fitted c.before.before.before in
+    let f = fitted (goal.at.push_rows-pushes-requires c).Start in
     let w = wall_within _ f.wall_fits in
     let face = stem_face_lem w in
     (f.wall_fits, record { coefficient = omega arith; height = omega arith; water = omega arith }, omega arith)
 
 pub filled-requires : goal.filled-requires
-filled-requires c = rw c.loads_on_stem.ensures (loads_small _ _ (stem_fit _ _ _ (fitted c.before.before.before.before.before)))
+filled-requires c = rw c.loads_on_stem.ensures (loads_small _ _ (stem_fit _ _ _ (fitted (goal.at.filled-requires c).Start)))
 
 pub returns : goal.returns
 unfolding stem_in_place

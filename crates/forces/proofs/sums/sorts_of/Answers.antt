@@ -10,12 +10,12 @@ use Rattle.forces.specs.Sorts.{first_sorts, place_by_way, sorts_of}
 use Rattle.forces.proofs.sums.sorts_of.Goals as goal
 
 pub loop-i-init : goal.loop-i-init
-loop-i-init c = none_made (place_by_way 0 2) (place_by_way 1 3) c.args.t1 c.well-formed.0.1.0.1 (omega arith) refl
+loop-i-init c = none_made (place_by_way 0 2) (place_by_way 1 3) c.args.loads c.well_formed.0.1.0.1 (omega arith) refl
 
 pub loop-i-preserved : goal.loop-i-preserved
 loop-i-preserved c =
-    let now = c.before.before.before.before in
-    next_made (place_by_way 0 2) (place_by_way 1 3) now.args.t1 now.loop-i.invariant 0 [] _ _ _ _ (omega arith) refl refl c.sort_by_way.ensures
+    let now = c in
+    next_made (place_by_way 0 2) (place_by_way 1 3) now.args.loads now.loop-i.invariant 0 [] _ _ _ _ (omega arith) refl refl c.sort_by_way.ensures
     c.sort_by_way-in-loop-i.ensures
 
 pub returns : goal.returns

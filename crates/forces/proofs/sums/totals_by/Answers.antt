@@ -3,26 +3,21 @@ use native.Mathlib.Omega.{arith}
 use borrow.Author.Rules.{rules}
 use Rattle.forces.specs.Sorts.{totals_by}
 use Rattle.forces.proofs.Summed.{read_back}
-use Rattle.forces.proofs.sums.totals_by.Goals.{After-column_sum-arg-3-1, Start}
 use Rattle.forces.proofs.sums.totals_by.Goals as goal
-
--- at the third sum the start lies five steps back
-abbrev third : After-column_sum-arg-3-1 → Start
-third c = c.before.before.before.before.before
 
 pub returns : goal.returns
 unfolding totals_by
 returns c =
-    let fourth = c.before.before in
+    let fourth = c in
     let three = fourth.before.before in
     let two = three.before.before in
     let one = two.before.before in
     rw (
-      read_back one.column_sum.ensures one.column_sum.type-inv,
-      read_back two.column_sum-2.ensures two.column_sum-2.type-inv,
-      read_back three.column_sum-3.ensures three.column_sum-3.type-inv,
-      read_back fourth.column_sum-4.ensures fourth.column_sum-4.type-inv,
-      read_back c.column_sum-5.ensures c.column_sum-5.type-inv,
+      read_back one.column_sum.ensures one.column_sum.type_inv,
+      read_back two.column_sum-2.ensures two.column_sum-2.type_inv,
+      read_back three.column_sum-3.ensures three.column_sum-3.type_inv,
+      read_back fourth.column_sum-4.ensures fourth.column_sum-4.type_inv,
+      read_back c.column_sum-5.ensures c.column_sum-5.type_inv,
     )
 
 pub column_sum-requires : goal.column_sum-requires
@@ -32,10 +27,10 @@ pub column_sum-requires-2 : goal.column_sum-requires-2
 column_sum-requires-2 c = let pre = c.requires in (omega arith, pre.0, pre.1.each _)
 
 pub column_sum-requires-3 : goal.column_sum-requires-3
-column_sum-requires-3 c = let pre = (third c).requires in (omega arith, pre.0, pre.1.each _)
+column_sum-requires-3 c = let pre = c.requires in (omega arith, pre.0, pre.1.each _)
 
 pub column_sum-requires-4 : goal.column_sum-requires-4
-column_sum-requires-4 c = let pre = (third c.before.before).requires in (omega arith, pre.0, pre.1.each _)
+column_sum-requires-4 c = let pre = c.requires in (omega arith, pre.0, pre.1.each _)
 
 pub column_sum-requires-5 : goal.column_sum-requires-5
-column_sum-requires-5 c = let pre = (third c.before.before.before.before).requires in (omega arith, pre.0, pre.1.each _)
+column_sum-requires-5 c = let pre = c.requires in (omega arith, pre.0, pre.1.each _)

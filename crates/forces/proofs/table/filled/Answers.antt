@@ -10,7 +10,7 @@ use Rattle.forces.proofs.Runs.{TwoRuns, none_made, next_made, all_stored}
 use Rattle.forces.proofs.table.filled.Goals as goal
 
 pub loop-i-init : goal.loop-i-init
-loop-i-init c = none_made (part_row 2) (part_row 3) c.args.t3 c.well-formed.1.1.0.1.0.1 (omega arith) c.own_rows-table.type-inv.1.0.1
+loop-i-init c = none_made (part_row 2) (part_row 3) c.args.loads c.well_formed.1.1.0.1.0.1 (omega arith) c.own_rows-table.type_inv.1.0.1
 
 pub load_row-requires : goal.load_row-requires
 load_row-requires c = (omega arith, c.requires _)
@@ -20,8 +20,8 @@ load_row-requires-in-loop-i c = (omega arith, c.requires _)
 
 pub loop-i-preserved : goal.loop-i-preserved
 loop-i-preserved c =
-    let now = c.before.before.before.before in
-    let loads = now.args.t3 in
+    let now = c in
+    let loads = now.args.loads in
     next_made (part_row 2) (part_row 3) loads now.loop-i.invariant [] [] _ _ _ _ (omega arith) refl refl c.Load-row.ensures c.load_row-in-loop-i.ensures
 
 pub returns : goal.returns

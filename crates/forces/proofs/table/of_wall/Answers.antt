@@ -13,7 +13,7 @@ fitted c = fit c.args.wall c.args.loads c.requires.0
 
 pub push_rows-pushes-requires : goal.push_rows-pushes-requires
 push_rows-pushes-requires c =
-    let f = fitted c.before.before.before in
+    let f = fitted (goal.at.push_rows-pushes-requires c).Start in
     let w = wall_within _ f.wall_fits in
     (f.wall_fits, record { coefficient = omega arith; height = omega (arith, wall_height_lem w); water = omega arith }, omega (arith, w.downstand_depth))
 
@@ -22,7 +22,7 @@ unfolding table
 returns c = cc (in_place (weight_rows _) (push_rows _ _ _ _ _) _)
 
 pub weight_rows-requires : goal.weight_rows-requires
-weight_rows-requires c = (fitted c.before.before.before.before).wall_fits
+weight_rows-requires c = (fitted (goal.at.weight_rows-requires c).Start).wall_fits
 
 pub filled-requires : goal.filled-requires
-filled-requires c = loads_small _ _ (fitted c.before.before.before.before.before)
+filled-requires c = loads_small _ _ (fitted (goal.at.filled-requires c).Start)

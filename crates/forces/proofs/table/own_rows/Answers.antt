@@ -9,7 +9,7 @@ use Rattle.forces.proofs.Runs.{OneRun, front_stands, next_one, one_stored}
 use Rattle.forces.proofs.table.own_rows.Goals as goal
 
 pub loop-i-init : goal.loop-i-init
-loop-i-init c = front_stands c.well-formed.1.0.1.0.1 (omega arith) c.weights_first-table.type-inv.1.0.1
+loop-i-init c = front_stands c.well_formed.1.0.1.0.1 (omega arith) c.weights_first-table.type_inv.1.0.1
 
 pub loop-i-preserved : goal.loop-i-preserved
 loop-i-preserved c = let now = c.loop-i in next_one now.invariant [] _ _ (omega arith) refl refl

@@ -8,7 +8,7 @@ use Rattle.forces.proofs.Runs.{OneRun, front_stands, next_one, one_stored}
 use Rattle.forces.proofs.table.weights_first.Goals as goal
 
 pub loop-i-init : goal.loop-i-init
-loop-i-init c = front_stands c.well-formed.0.1.0.1 (omega arith) refl
+loop-i-init c = front_stands c.well_formed.0.1.0.1 (omega arith) refl
 
 pub loop-i-preserved : goal.loop-i-preserved
 loop-i-preserved c = let now = c.loop-i in next_one now.invariant [] now.i _ (omega arith) (omega arith) refl

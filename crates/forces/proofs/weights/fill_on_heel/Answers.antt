@@ -20,13 +20,13 @@ unfolding fill_on_heel
 returns c = cc
 
 pub overflow_add-fill : goal.overflow_add-fill
-overflow_add-fill c = omega (arith, few c)
+overflow_add-fill c = omega (arith, few (goal.at.overflow_add-fill c).After-moist_weight)
 
 pub overflow_mul-result : goal.overflow_mul-result
-overflow_mul-result c = omega (arith, few c)
+overflow_mul-result c = omega (arith, few (goal.at.overflow_mul-result c).After-moist_weight)
 
 pub overflow_mul-result-2 : goal.overflow_mul-result-2
-overflow_mul-result-2 c = omega (arith, light c)
+overflow_mul-result-2 c = omega (arith, light (goal.at.overflow_mul-result-2 c).After-surcharge_weight)
 
 pub overflow_add-result : goal.overflow_add-result
-overflow_add-result c = omega (arith, few c.before, light c)
+overflow_add-result c = omega (arith, few (goal.at.overflow_add-result c).After-moist_weight, light (goal.at.overflow_add-result c).After-surcharge_weight)

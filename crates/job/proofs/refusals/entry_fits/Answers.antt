@@ -21,7 +21,7 @@ returns-then-wall_count-number c = rw (walls_length, ← c.wall_count.ensures, l
 pub returns : goal.returns
 unfolding entry_fits
 returns c =
-    let tests = c.before.before.before in
+    let tests = c in
     let start = tests.args in
     let number = get_or start.t2 0 0 in
     let there : number - 1 < wall_count start.file.now = omega arith in

@@ -8,16 +8,12 @@ use Rattle.rules.proofs.AcceptedFile.{walls_length}
 use Rattle.rules.specs.Answered.{first_bad_load}
 use Rattle.job.proofs.Judging.{Passed, all_passed, refused, one_passed, load_answer_at, no_load_passed}
 use Rattle.job.proofs.Counting.{Counted, none_counted, Met, its_answer, has_room, one_counted}
-use Rattle.job.proofs.refusals.first_bad_load.Goals.{After-is_worked, After-load_answer-answer, Else-not-is_worked, In-loop-i}
+use Rattle.job.proofs.refusals.first_bad_load.Goals.{After-load_answer-answer, Else-not-is_worked}
 use Rattle.job.proofs.refusals.first_bad_load.Goals as goal
 
 pub loop-i-init : goal.loop-i-init
 unfolding entries
 loop-i-init c = (rw c.load_count-loads.ensures (no_load_passed _ _ _), none_counted _)
-
--- where the turn of a load that is judged began
-abbrev turn : (c : After-is_worked) → In-loop-i
-turn c = c.before.before.before.before.before
 
 -- the load that is answered
 met : (c : After-load_answer-answer) → let counted = c.before.before in let loop = counted.before.before.before in
@@ -36,8 +32,8 @@ met c =
 
 pub returns-then-not-is_worked : goal.returns-then-not-is_worked
 returns-then-not-is_worked c =
-    let its = turn c.before in
-    refused its.loop-i.invariant.0 its.loop-i-test.true (its_answer (met c.before.before)) c.is_worked.ensures c.if-not-is_worked.true-raw
+    let its = c in
+    refused its.loop-i.invariant.0 its.loop-i-test.true (its_answer (met (goal.at.returns-then-not-is_worked c).After-load_answer-answer)) c.is_worked.ensures c.if-not-is_worked.true-raw
 
 -- a load that is passed has room on a wall that is counted
 room : (c : Else-not-is_worked) → let counted = c.before.before.before.before in
@@ -46,8 +42,8 @@ room c = has_room (met c.before.before) c.is_worked.ensures c.if-not-is_worked.f
 
 pub loop-i-preserved : goal.loop-i-preserved
 loop-i-preserved c =
-    let its = turn c.before in
-    let answered = met c.before.before in
+    let its = c in
+    let answered = met (goal.at.loop-i-preserved c).After-load_answer-answer in
     let told = c.is_worked.ensures in
     (one_passed its.loop-i.invariant.0 its.loop-i-test.true (its_answer answered) told c.if-not-is_worked.false-raw, one_counted answered told c.if-not-is_worked.false-raw)
 
@@ -55,13 +51,13 @@ pub returns : goal.returns
 returns c = all_passed c.loop-i.invariant.0 c.loop-i-test.false
 
 pub overflow_cast-wall : goal.overflow_cast-wall
-overflow_cast-wall c = omega (arith, room c)
+overflow_cast-wall c = omega (arith, room (goal.at.overflow_cast-wall c).Else-not-is_worked)
 
 pub overflow_add-counts : goal.overflow_add-counts
-overflow_add-counts c = omega (arith, room c)
+overflow_add-counts c = omega (arith, room (goal.at.overflow_add-counts c).Else-not-is_worked)
 
 pub offset_bounds-counts-wall : goal.offset_bounds-counts-wall
-offset_bounds-counts-wall c = omega (arith, room c)
+offset_bounds-counts-wall c = omega (arith, room (goal.at.offset_bounds-counts-wall c).Else-not-is_worked)
 
 pub bounds-counts-wall : goal.bounds-counts-wall
-bounds-counts-wall c = omega (arith, room c)
+bounds-counts-wall c = omega (arith, room (goal.at.bounds-counts-wall c).Else-not-is_worked)

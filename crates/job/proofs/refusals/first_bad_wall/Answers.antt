@@ -12,14 +12,14 @@ loop-i-init c = rw c.wall_count-count.ensures (no_wall_passed _ _)
 
 pub returns-then-not-is_worked : goal.returns-then-not-is_worked
 returns-then-not-is_worked c =
-    let answered = c.before.before in
+    let answered = c in
     let looked = answered.before in
     let is = rw looked.wall_at.ensures at answered.wall_answer-answer.ensures in
     refused looked.loop-i.invariant looked.loop-i-test.true is c.is_worked.ensures c.if-not-is_worked.true-raw
 
 pub loop-i-preserved : goal.loop-i-preserved
 loop-i-preserved c =
-    let answered = c.before.before in
+    let answered = c in
     let looked = answered.before in
     let is = rw looked.wall_at.ensures at answered.wall_answer-answer.ensures in
     one_passed looked.loop-i.invariant looked.loop-i-test.true is c.is_worked.ensures c.if-not-is_worked.false-raw

@@ -3,7 +3,7 @@ use Rattle.job.proofs.refusals.header_answer.Goals as goal
 
 pub returns : goal.returns
 returns c =
-    let tests = c.before.before.before.before in
+    let tests = c in
     let three = tests.before.before.before.before in
     let two = three.before.before in
     rw (

@@ -5,5 +5,5 @@ use Rattle.job.proofs.refusals.taking_answer.Goals as goal
 pub returns : goal.returns
 unfolding taking_answer
 returns c =
-    let asked = c.before.before in
+    let asked = c in
     rw (c.or_else.ensures, c.refused_if.ensures, asked.load_numbers.ensures.0, asked.wall_numbers.ensures.0, asked.first_refusal-answer.ensures)

@@ -27,7 +27,7 @@ module _ (row : List ℕ) (k number : ℕ) (h : k < length row) where
   goes_on taken = rw (drop-cons row k 0 h, past _ _ number taken, take-suc row k 0 h, append_snoc)
 
 pub loop-k-init : goal.loop-k-init
-loop-k-init c = (c.well-formed.0.1.0.1, omega arith, refl)
+loop-k-init c = (c.well_formed.0.1.0.1, omega arith, refl)
 
 pub returns-then-places-k-eq0 : goal.returns-then-places-k-eq0
 returns-then-places-k-eq0 c = let loop = c.loop-k in sym (loop.invariant.2 ∙ stops loop.places loop.k _ (omega arith) c.if-places-k-eq0.true)

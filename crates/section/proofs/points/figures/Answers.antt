@@ -7,7 +7,7 @@ use Rattle.section.proofs.points.figures.Goals as goal
 pub returns : goal.returns
 unfolding rounded_up rounded_down bears greatest lever_arm needed_area besides bar_area provided_area
 returns c =
-    let two = c.before.before.before in
+    let two = c in
     rw (
       two.needed_area.ensures,
       two.lever_arm-z.ensures.0,

@@ -18,12 +18,12 @@ hundredfold m n false e = lt-leb (100 * m) (100 * n) (omega (arith, leb-false))
 
 pub returns-then-d-v : goal.returns-then-d-v
 unfolding shear_fails
-returns-then-d-v c = let d = c.before in rw (← d.twice_depth-d.ensures.0, lt-leb (2 * d.args.v) (5000 * d.twice_depth-d.result) (omega arith), and-false)
+returns-then-d-v c = let d = c in rw (← d.twice_depth-d.ensures.0, lt-leb (2 * d.args.v) (5000 * d.twice_depth-d.result) (omega arith), and-false)
 
 pub returns : goal.returns
 unfolding shear_fails
 returns c =
-    let d = c.before.before.before in
+    let d = c in
     let twice = 2 * d.args.v in
     let fcu = d.args.section.concrete in
     let D = d.twice_depth-d.result in

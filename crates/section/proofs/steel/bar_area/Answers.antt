@@ -30,12 +30,12 @@ overflow_cast-i c = all_at (Fits w64) 0 (omega arith) bars (omega arith) c.loop-
 
 pub returns-then-bar-i : goal.returns-then-bar-i
 returns-then-bar-i c =
-    let d = c.before.before in
+    let d = c in
     sym (d.loop-i.invariant.1 ∙ next _ _ c.loop-i-test.true ∙ rw (eq-eqb _ _ c.if-bar-i.true))
 
 pub loop-i-preserved : goal.loop-i-preserved
 loop-i-preserved c =
-    let d = c.before.before in
+    let d = c in
     (omega arith, d.loop-i.invariant.1 ∙ next _ _ c.loop-i-test.true ∙ rw (add-one, ne_eqb _ _ c.if-bar-i.false))
 
 pub returns : goal.returns

@@ -6,7 +6,13 @@ use Rattle.rules.specs.ToeAndStem.{least_area}
 use Rattle.section.proofs.steel.least_area.Goals as goal
 
 pub overflow_mul-result : goal.overflow_mul-result
+unfolding least_area
 overflow_mul-result c = two_fit (omega arith)
 
 pub overflow_mul-result-2 : goal.overflow_mul-result-2
+unfolding least_area
 overflow_mul-result-2 c = three_fit (omega arith)
+
+pub returns : goal.returns
+unfolding least_area
+returns c = refl

@@ -15,15 +15,15 @@ tested c = rw (← c.twice_depth-d.ensures.0) (sym c.needs_compression.ensures)
 
 pub returns-then-needs_compression : goal.returns-then-needs_compression
 unfolding required_area steel_fails
-returns-then-needs_compression c = rw (tested c.before ∙ c.if-needs_compression.true)
+returns-then-needs_compression c = rw (tested (goal.at.returns-then-needs_compression c).After-needs_compression ∙ c.if-needs_compression.true)
 
 pub needed_area-needed-requires : goal.needed_area-needed-requires
-needed_area-needed-requires c = (moment_most _ _ _ (omega arith) (tested c.before.before ∙ c.if-needs_compression.false), omega arith, omega arith)
+needed_area-needed-requires c = (moment_most _ _ _ (omega arith) (tested (goal.at.needed_area-needed-requires c).After-needs_compression ∙ c.if-needs_compression.false), omega arith, omega arith)
 
 pub returns : goal.returns
 unfolding required_area steel_fails
 returns c =
-    let d = c.before.before.before in
+    let d = c in
     let start = d.before.before.before in
     rw (
       c.provided_area.ensures,

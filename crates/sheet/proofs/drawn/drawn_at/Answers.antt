@@ -25,25 +25,22 @@ its s = loads_on (suc s.args.i) (entries s.args.job.now)
 fitted : (s : Start) → Fit (wall s) (its s)
 fitted s = fit _ _ (wall_of_file _ s.requires.0 _ s.requires.1)
 
-abbrev start : (c : After-blocks-borne) → Start
-start c = c.before.before.before.before.before.before
-
-borne : (c : After-blocks-borne) → c.blocks-borne.result ≡ worked_bearing (wall (start c)) (its (start c))
-borne c = let s = start c in cc (borne_by s.args.job.now s.args.i s.pre.1 s.pre.0)
+borne : (c : After-blocks-borne) → c.blocks-borne.result ≡ worked_bearing (wall c) (its c)
+borne c = let s = c in cc (borne_by s.args.job.now s.args.i s.pre.1 s.pre.0)
 
 pub drawing_of-requires : goal.drawing_of-requires
 unfolding worked_bearing worked_forces
-drawing_of-requires c = rw (borne c.before) (divided _ _ (fitted (start c.before)))
+drawing_of-requires c = rw (borne (goal.at.drawing_of-requires c).After-blocks-borne) (divided _ _ (fitted c))
 
 pub shape_of-requires : goal.shape_of-requires
 unfolding worked_bearing pressed_by
-shape_of-requires c = rw (borne c.before.before) (shaped _ _ (fitted (start c.before.before)), refl)
+shape_of-requires c = rw (borne (goal.at.shape_of-requires c).After-blocks-borne) (shaped _ _ (fitted c), refl)
 
 pub returns : goal.returns
 unfolding worked_bearing worked_forces pressed_by
 returns c =
-    let pre = (start c.before.before.before).requires in
-    rw (c.shape_of.ensures, c.drawing_of.ensures, borne c.before.before.before) (sym (drawn_is _ pre.0 _ pre.1))
+    let pre = c.requires in
+    rw (c.shape_of.ensures, c.drawing_of.ensures, borne (goal.at.returns c).After-blocks-borne) (sym (drawn_is _ pre.0 _ pre.1))
 
 pub bounds-places-index : goal.bounds-places-index
 bounds-places-index c = let pre = c.requires in omega (arith, wall_count_lem _ pre.0)

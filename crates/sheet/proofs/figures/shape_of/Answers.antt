@@ -9,7 +9,7 @@ use Rattle.whole.proofs.Integer.{back}
 use Rattle.rules.specs.Bearing.{service_scale, reported}
 use Rattle.rules.specs.Drawing.{shape_by, shape_of}
 use Rattle.rules.proofs.Pressures.{reports}
-use Rattle.sheet.proofs.figures.shape_of.Goals.{After-in_thousands-heel, Start}
+use Rattle.sheet.proofs.figures.shape_of.Goals.{Start}
 use Rattle.sheet.proofs.figures.shape_of.Goals as goal
 
 -- what is read of the pressures is what is reported, and of the contact what it is
@@ -25,34 +25,30 @@ over c = back _ (omega (arith, c.requires.0.over))
 under : (c : Start) → let z = c.args.pressed.block.contact.under in to_z w64 (of_z w64 z) ≡ z
 under c = back _ (omega (arith, c.requires.0.under))
 
--- past the two calls, a case for each kind
-abbrev start : (c : After-in_thousands-heel) → Start
-start c = c.before.before.before.before.before.before
-
 pub returns-in-Full : goal.returns-in-Full
 unfolding shape_of shape_by
-returns-in-Full c = let s = start c.before.before in rw c.enum_told.given.1 (cc (toe s, heel s))
+returns-in-Full c = let s = c in rw c.enum_told.given.1 (cc (toe s, heel s))
 
 pub returns-in-FromToe : goal.returns-in-FromToe
 unfolding shape_of shape_by
-returns-in-FromToe c = let s = start c.before.before.before.before.before in rw c.enum_told-in-FromToe-1.given.1 (cc (toe s, over s, under s))
+returns-in-FromToe c = let s = c in rw c.enum_told-in-FromToe-1.given.1 (cc (toe s, over s, under s))
 
 pub returns-in-FromHeel : goal.returns-in-FromHeel
 unfolding shape_of shape_by
-returns-in-FromHeel c = let s = start c.before.before.before.before.before in rw c.enum_told-in-FromHeel-1.given.1 (cc (heel s, over s, under s))
+returns-in-FromHeel c = let s = c in rw c.enum_told-in-FromHeel-1.given.1 (cc (heel s, over s, under s))
 
 pub returns-in-NoBlock : goal.returns-in-NoBlock
 unfolding shape_of shape_by
 returns-in-NoBlock c = rw c.enum_told-in-NoBlock-1.given.1
 
 pub overflow_cast-pressed : goal.overflow_cast-pressed
-overflow_cast-pressed c = let start = c.before.before.before in omega (arith, reports service_scale start.requires.1)
+overflow_cast-pressed c = let start = c in omega (arith, reports service_scale start.requires.1)
 
 pub in_thousands-toe-requires : goal.in_thousands-toe-requires
-in_thousands-toe-requires c = let start = c.before.before.before in rw (toe start) start.requires.0.toe
+in_thousands-toe-requires c = let start = c in rw (toe (goal.at.in_thousands-toe-requires c).Start) start.requires.0.toe
 
 pub overflow_cast-pressed-2 : goal.overflow_cast-pressed-2
-overflow_cast-pressed-2 c = let start = c.before.before.before.before.before in omega (arith, reports service_scale start.requires.1)
+overflow_cast-pressed-2 c = let start = c in omega (arith, reports service_scale start.requires.1)
 
 pub in_thousands-heel-requires : goal.in_thousands-heel-requires
-in_thousands-heel-requires c = let start = c.before.before.before.before.before in rw (heel start) start.requires.0.heel
+in_thousands-heel-requires c = let start = c in rw (heel (goal.at.in_thousands-heel-requires c).Start) start.requires.0.heel

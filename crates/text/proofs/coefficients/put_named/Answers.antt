@@ -8,7 +8,7 @@ use Rattle.text.proofs.coefficients.put_named.Goals as goal
 pub returns : goal.returns
 unfolding named_text
 returns c =
-    let end = c.before.before in
+    let end = c in
     let active = end.before.before.before.before in
     let active-name = active.before.before.before.before in
     let rest = active-name.before.before.before.before.before in

@@ -10,7 +10,7 @@ use Rattle.text.proofs.figures.put_drawn.Goals as goal
 pub returns : goal.returns
 unfolding drawn_text figures
 returns c =
-    let shape = c.before.before.before.before.before.before in
+    let shape = c in
     let figure = shape.before.before.before.before in
     let pair = figure.before.before.before.before in
     let name = pair.before.before.before.before in

@@ -6,6 +6,6 @@ use Rattle.text.proofs.figures.put_pair.Goals as goal
 
 pub returns : goal.returns
 returns c =
-    let first = c.before.before.before.before.before.before in
+    let first = c in
     let args = first.args in
     then_figures (args.x ∷ []) (args.y ∷ []) first.put_figure-first_end.ensures c.put_figure.ensures

@@ -16,25 +16,25 @@ negative : (c : Else-z-ge0) → Below c.args.z
 negative c = let fits = c.ranges.z in below _ fits (le_z_false (rw (to_z-of_z w64 _ fits) at c.if-z-ge0.false))
 
 pub put_decimal-requires : goal.put_decimal-requires
-put_decimal-requires c = omega (arith, (not_negative c.before.before).small)
+put_decimal-requires c = omega (arith, (not_negative (goal.at.put_decimal-requires c).Then-z-ge0).small)
 
 pub returns-then-z-ge0 : goal.returns-then-z-ge0
 returns-then-z-ge0 c = (λ c.
-    let number = c.before.before.before.before in
-    rw (not_negative number.before).text (within (rw number.above_zero.ensures at c.put_decimal.ensures) (omega arith)))
+    let number = c in
+    rw (not_negative (goal.at.returns-then-z-ge0 c).Then-z-ge0).text (within (rw number.above_zero.ensures at c.put_decimal.ensures) (omega arith)))
 
 pub overflow_sub-z : goal.overflow_sub-z
-overflow_sub-z c = (negative c.before.before.before.before).fits
+overflow_sub-z c = (negative (goal.at.overflow_sub-z c).Else-z-ge0).fits
 
 pub overflow_add-above_zero : goal.overflow_add-above_zero
-overflow_add-above_zero c = omega (arith, (negative c.before.before.before.before.before).small)
+overflow_add-above_zero c = omega (arith, (negative (goal.at.overflow_add-above_zero c).Else-z-ge0).small)
 
 pub put_decimal-requires-2 : goal.put_decimal-requires-2
-put_decimal-requires-2 c = omega (arith, (negative c.before.before.before.before.before.before).small)
+put_decimal-requires-2 c = omega (arith, (negative (goal.at.put_decimal-requires-2 c).Else-z-ge0).small)
 
 pub returns : goal.returns
 returns c = (λ c.
-    let number = c.before.before.before.before in
+    let number = c in
     let sign = number.before.before.before in
-    rw (negative sign.before.before).text
+    rw (negative (goal.at.returns c).Else-z-ge0).text
     (then sign.put_byte-sign_end.ensures (rw number.above_zero-2.ensures at c.put_decimal-2.ensures)))

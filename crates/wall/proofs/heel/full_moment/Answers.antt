@@ -29,22 +29,22 @@ pub share-requires : goal.share-requires
 share-requires c =
     let a = c.args in
     let some = c.requires.0.some in
-    (mul-pos some some, omega (arith, line c, squares c, share_most (a.toe * a.arm + a.heel * (6 * a.l - a.arm)) (a.arm * a.arm) (a.l * a.l) (squares c).0), omega (arith, squares c))
+    (mul-pos some some, omega (arith, line (goal.at.share-requires c).Start, squares (goal.at.share-requires c).Start, share_most (a.toe * a.arm + a.heel * (6 * a.l - a.arm)) (a.arm * a.arm) (a.l * a.l) (squares (goal.at.share-requires c).Start).0), omega (arith, squares (goal.at.share-requires c).Start))
 
 pub returns : goal.returns
 returns c = c.rounded_down.ensures ∙ rw c.share.ensures (down_twice _ _ _)
 
 pub overflow_mul-sum : goal.overflow_mul-sum
-overflow_mul-sum c = omega (arith, line c)
+overflow_mul-sum c = omega (arith, line (goal.at.overflow_mul-sum c).Start)
 
 pub overflow_mul-sum-3 : goal.overflow_mul-sum-3
-overflow_mul-sum-3 c = omega (arith, line c)
+overflow_mul-sum-3 c = omega (arith, line (goal.at.overflow_mul-sum-3 c).Start)
 
 pub overflow_add-sum : goal.overflow_add-sum
-overflow_add-sum c = omega (arith, line c)
+overflow_add-sum c = omega (arith, line (goal.at.overflow_add-sum c).Start)
 
 pub overflow_mul-arm : goal.overflow_mul-arm
-overflow_mul-arm c = omega (arith, squares c)
+overflow_mul-arm c = omega (arith, squares (goal.at.overflow_mul-arm c).Start)
 
 pub overflow_mul-l : goal.overflow_mul-l
-overflow_mul-l c = omega (arith, squares c)
+overflow_mul-l c = omega (arith, squares (goal.at.overflow_mul-l c).Start)

@@ -20,22 +20,22 @@ area c = let long = c.requires.0.long in let short : c.args.lh ≤ longest = ome
 pub share-requires : goal.share-requires
 share-requires c =
     let a = c.args in
-    (c.requires.0.some, omega (arith, line c, share_most (a.toe * a.lh + a.heel * (2 * a.l - a.lh)) a.lh a.l (omega arith)), omega (arith, area c))
+    (c.requires.0.some, omega (arith, line (goal.at.share-requires c).Start, share_most (a.toe * a.lh + a.heel * (2 * a.l - a.lh)) a.lh a.l (omega arith)), omega (arith, area (goal.at.share-requires c).Start))
 
 pub returns : goal.returns
 returns c = c.rounded_down.ensures ∙ rw c.share.ensures (down_twice _ _ _)
 
 pub overflow_mul-sum : goal.overflow_mul-sum
-overflow_mul-sum c = omega (arith, line c)
+overflow_mul-sum c = omega (arith, line (goal.at.overflow_mul-sum c).Start)
 
 pub overflow_mul-sum-3 : goal.overflow_mul-sum-3
-overflow_mul-sum-3 c = omega (arith, line c)
+overflow_mul-sum-3 c = omega (arith, line (goal.at.overflow_mul-sum-3 c).Start)
 
 pub overflow_add-sum : goal.overflow_add-sum
-overflow_add-sum c = omega (arith, line c)
+overflow_add-sum c = omega (arith, line (goal.at.overflow_add-sum c).Start)
 
 pub overflow_mul-l : goal.overflow_mul-l
-overflow_mul-l c = omega (arith, area c.before)
+overflow_mul-l c = omega (arith, area (goal.at.overflow_mul-l c).Start)
 
 pub overflow_mul-l-2 : goal.overflow_mul-l-2
-overflow_mul-l-2 c = omega (arith, area c.before)
+overflow_mul-l-2 c = omega (arith, area (goal.at.overflow_mul-l-2 c).Start)

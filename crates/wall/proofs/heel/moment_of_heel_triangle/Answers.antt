@@ -21,25 +21,25 @@ under_most c =
 
 pub returns-then-p-under : goal.returns-then-p-under
 returns-then-p-under c =
-    let read = c.before.before in
+    let read = c in
     let start = read.before in
     let s = start.requires.1 in
     let is = read.twice_heel_arm.ensures in
-    c.rounded_down.ensures ∙ rw is (sym (heel_moment_all _ (thick start) _ _ s.over_some s.under_some (rw (← is) (omega arith))))
+    c.rounded_down.ensures ∙ rw is (sym (heel_moment_all _ (thick (goal.at.returns-then-p-under c).Start) _ _ s.over_some s.under_some (rw (← is) (omega arith))))
 
 pub returns : goal.returns
 returns c =
-    let read = c.before.before in
+    let read = c in
     let start = read.before in
     let p = start.args.contact.over in
     let q = start.args.contact.under in
     let s = start.requires.1 in
     let is = read.twice_heel_arm.ensures in
     share_is (480 * p * p) p (cut_moment p q (read.twice_heel_arm.result * q) (omega arith)) (omega arith) c.share_down.ensures
-    ∙ rw is (sym (heel_moment_cut _ (thick start) p q s.over_some s.under_some (rw (← is) (omega arith))))
+    ∙ rw is (sym (heel_moment_cut _ (thick (goal.at.returns c).Start) p q s.over_some s.under_some (rw (← is) (omega arith))))
 
 pub overflow_mul-under : goal.overflow_mul-under
-overflow_mul-under c = omega (arith, under_most c)
+overflow_mul-under c = omega (arith, under_most (goal.at.overflow_mul-under c).After-twice_heel_arm)
 
 pub overflow_mul-under-then-p-under : goal.overflow_mul-under-then-p-under
-overflow_mul-under-then-p-under c = omega (arith, under_most c.before)
+overflow_mul-under-then-p-under c = omega (arith, under_most (goal.at.overflow_mul-under-then-p-under c).After-twice_heel_arm)

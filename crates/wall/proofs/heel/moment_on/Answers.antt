@@ -33,16 +33,16 @@ unfolding moment_on_heel
 returns c = cc
 
 pub overflow_mul-slab : goal.overflow_mul-slab
-overflow_mul-slab c = omega (arith, slab_most c)
+overflow_mul-slab c = omega (arith, slab_most (goal.at.overflow_mul-slab c).After-slab)
 
 pub overflow_mul-slab-2 : goal.overflow_mul-slab-2
-overflow_mul-slab-2 c = omega (arith, slab_most c)
+overflow_mul-slab-2 c = omega (arith, slab_most (goal.at.overflow_mul-slab-2 c).After-slab)
 
 pub overflow_mul-fill : goal.overflow_mul-fill
-overflow_mul-fill c = omega (arith, fill-at c)
+overflow_mul-fill c = omega (arith, fill-at (goal.at.overflow_mul-fill c).After-field-2)
 
 pub overflow_mul-fill-2 : goal.overflow_mul-fill-2
-overflow_mul-fill-2 c = omega (arith, fill-at c)
+overflow_mul-fill-2 c = omega (arith, fill-at (goal.at.overflow_mul-fill-2 c).After-field-2)
 
 pub overflow_add-slab : goal.overflow_add-slab
-overflow_add-slab c = omega (arith, fill-at c, slab_most c.before.before)
+overflow_add-slab c = omega (arith, fill-at (goal.at.overflow_add-slab c).After-field-2, slab_most (goal.at.overflow_add-slab c).After-slab)

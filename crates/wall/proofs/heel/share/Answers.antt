@@ -16,10 +16,10 @@ left c =
     (most, le_of_mul-le-mul_right {k = given.b} (omega (arith, div-mul-le_self (given.n % given.b * given.a) given.b)) c.requires.0)
 
 pub overflow_mul-result-2 : goal.overflow_mul-result-2
-overflow_mul-result-2 c = omega (arith, left c)
+overflow_mul-result-2 c = omega (arith, left (goal.at.overflow_mul-result-2 c).Start)
 
 pub overflow_add-result : goal.overflow_add-result
-overflow_add-result c = omega (arith, left c)
+overflow_add-result c = omega (arith, left (goal.at.overflow_add-result c).Start)
 
 pub returns : goal.returns
 returns c = down_by_parts _ _ c.requires.0

@@ -20,10 +20,10 @@ unfolding shear_on_heel
 returns c = cc
 
 pub overflow_mul-slab : goal.overflow_mul-slab
-overflow_mul-slab c = omega (arith, light c)
+overflow_mul-slab c = omega (arith, light (goal.at.overflow_mul-slab c).After-field)
 
 pub overflow_mul-fill : goal.overflow_mul-fill
-overflow_mul-fill c = omega (arith, light c)
+overflow_mul-fill c = omega (arith, light (goal.at.overflow_mul-fill c).After-field)
 
 pub overflow_add-slab : goal.overflow_add-slab
-overflow_add-slab c = omega (arith, light c)
+overflow_add-slab c = omega (arith, light (goal.at.overflow_add-slab c).After-field)

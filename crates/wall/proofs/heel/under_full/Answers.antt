@@ -7,14 +7,10 @@ use Rattle.rules.specs.JobFile.{heel_length, base_length}
 use Rattle.rules.specs.ToeAndStem.{twice_heel_arm}
 use Rattle.rules.proofs.Accepted.{wall_within}
 use Rattle.wall.proofs.UnderHeel.{full_action}
-use Rattle.wall.proofs.heel.under_full.Goals.{After-twice_heel_arm-arm, Start}
+use Rattle.wall.proofs.heel.under_full.Goals.{After-twice_heel_arm-arm}
 use Rattle.wall.proofs.heel.under_full.Goals as goal
 
--- the wall's lengths, as they are read
-abbrev start : After-twice_heel_arm-arm → Start
-start c = c.before.before.before
-
-lengths : (c : After-twice_heel_arm-arm) → let wall = (start c).args.wall in
+lengths : (c : After-twice_heel_arm-arm) → let wall = c.args.wall in
     (c.base_length-l.result ≡ base_length wall) × (c.field-lh.result ≡ heel_length wall) × (c.twice_heel_arm-arm.result ≡ twice_heel_arm wall)
 lengths c = (c.base_length-l.ensures, c.field-lh.ensures.0, c.twice_heel_arm-arm.ensures)
 
@@ -25,12 +21,12 @@ on_base c = omega (arith, lengths c)
 
 pub returns : goal.returns
 returns c =
-    let d = c.before.before in
+    let d = c in
     let is = lengths d in
-    full_action _ (omega (arith, wall_within _ (start d).requires.0)) _ _ is.0 is.1 is.2 c.full_shear.ensures c.full_moment.ensures
+    full_action _ (omega (arith, wall_within _ d.requires.0)) _ _ is.0 is.1 is.2 c.full_shear.ensures c.full_moment.ensures
 
 pub full_shear-requires : goal.full_shear-requires
-full_shear-requires c = (rw (lengths c).0 (start c).requires.1, (on_base c).0)
+full_shear-requires c = (rw (lengths (goal.at.full_shear-requires c).After-twice_heel_arm-arm).0 c.requires.1, (on_base (goal.at.full_shear-requires c).After-twice_heel_arm-arm).0)
 
 pub full_moment-requires : goal.full_moment-requires
-full_moment-requires c = (rw (lengths c.before).0 (start c.before).requires.1, (on_base c.before).1)
+full_moment-requires c = (rw (lengths (goal.at.full_moment-requires c).After-twice_heel_arm-arm).0 c.requires.1, (on_base (goal.at.full_moment-requires c).After-twice_heel_arm-arm).1)

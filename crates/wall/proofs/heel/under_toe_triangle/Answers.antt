@@ -22,7 +22,7 @@ back c = omega (arith, c.base_length.ensures, c.field.ensures, base_length_lem (
 
 pub returns : goal.returns
 returns c =
-    let second = c.before.before in
+    let second = c in
     let first = second.before.before in
     let read = first.before in
     let start = read.before.before in
@@ -31,7 +31,7 @@ returns c =
     let q = start.args.contact.under in
     let s = start.requires.1 in
     let thick = (wall_within wall start.requires.0).stem_thickness in
-    let near : first.excess-past_back.result ≡ p - (toe_length wall + stem_thickness wall) * q = rw (back read).1 at first.excess-past_back.ensures in
+    let near : first.excess-past_back.result ≡ p - (toe_length wall + stem_thickness wall) * q = rw (back (goal.at.returns c).After-field).1 at first.excess-past_back.ensures in
     let far : second.excess-past_middle.result ≡ 2 * p - twice_arm wall * q = rw second.twice_arm.ensures at second.excess-past_middle.ensures in
     action_is
     (share_is (20 * p * p) q (tip_shear p q first.excess-past_back.result (omega arith)) (omega arith) c.share_down.ensures
@@ -40,10 +40,10 @@ returns c =
     ∙ rw far (sym (toe_moment wall (omega arith) p q s.over_some s.under_some)))
 
 pub overflow_sub-back : goal.overflow_sub-back
-overflow_sub-back c = omega (arith, back c)
+overflow_sub-back c = omega (arith, back (goal.at.overflow_sub-back c).After-field)
 
 pub overflow_mul-back : goal.overflow_mul-back
-overflow_mul-back c = omega (arith, length_fits_lem c.requires.1 (c.base_length.result - c.field.result) (back c).2)
+overflow_mul-back c = omega (arith, length_fits_lem c.requires.1 (c.base_length.result - c.field.result) (back (goal.at.overflow_mul-back c).After-field).2)
 
 pub overflow_mul-twice_arm : goal.overflow_mul-twice_arm
 overflow_mul-twice_arm c = omega (arith, c.twice_arm.ensures, length_fits_lem c.requires.1 c.twice_arm.result (omega (arith, c.twice_arm.ensures, arm_most (wall_within _ c.requires.0))))

@@ -16,10 +16,10 @@ judged c = c.judged.ensures ∙ rw (is_true (is_workable c.args.section) c.requi
 
 pub returns-in-Unworkable : goal.returns-in-Unworkable
 returns-in-Unworkable c =
-    let one = judged c.before.before.before in
+    let one = judged (goal.at.returns-in-Unworkable c).After-judged in
     let other = c.enum_told.given.1 in
     let never : ◌≡◌ {A = ℕ} 0 1 = cc in
     absurd (omega arith)
 
 pub returns-in-Judged : goal.returns-in-Judged
-returns-in-Judged c = cc (judged c.before.before.before, c.member.given.1)
+returns-in-Judged c = cc (judged (goal.at.returns-in-Judged c).After-judged, c.member.given.1)

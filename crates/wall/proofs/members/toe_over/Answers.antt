@@ -5,7 +5,6 @@ use borrow.Author.Rules.{rules}
 use borrow.Author.Tests.{not-true, not-false}
 use Rattle.rules.proofs.Sections.{toe_workable}
 use Rattle.wall.proofs.Answers.{no-toe, no-bearing, toe-worked}
-use Rattle.wall.proofs.members.toe_over.Goals.{Else-not-is_given, Start}
 use Rattle.wall.proofs.members.toe_over.Goals as goal
 
 pub returns-then-field-eq0 : goal.returns-then-field-eq0
@@ -14,15 +13,11 @@ returns-then-field-eq0 c = c.no_member.ensures ∙ sym (no-toe _ _ (omega (arith
 pub returns-then-not-is_given : goal.returns-then-not-is_given
 returns-then-not-is_given c = c.no_member-then-not-is_given.ensures ∙ sym (no-bearing _ _ (sym c.is_given.ensures ∙ not-true _ c.if-not-is_given.true-raw))
 
--- where a block is given the start lies four steps back
-abbrev start : Else-not-is_given → Start
-start c = c.before.before.before.before
-
 pub returns : goal.returns
 returns c =
-    let judged = c.before.before.before in
+    let judged = c in
     rw (c.toe_section.ensures, c.toe_action.ensures) at c.member_of.ensures
     ∙ sym (toe-worked _ _ (omega (arith, judged.field.ensures)) (sym judged.is_given.ensures ∙ not-false _ judged.if-not-is_given.false-raw))
 
 pub member_of-requires : goal.member_of-requires
-member_of-requires c = rw c.toe_section.ensures (toe_workable _ (start c.before.before).requires.0)
+member_of-requires c = rw c.toe_section.ensures (toe_workable _ c.requires.0)

@@ -15,7 +15,7 @@ slab_most c =
     omega (arith, mul-le-mul density thickness)
 
 pub overflow_mul-result-2 : goal.overflow_mul-result-2
-overflow_mul-result-2 c = omega (arith, slab_most c)
+overflow_mul-result-2 c = omega (arith, slab_most (goal.at.overflow_mul-result-2 c).After-field-2)
 
 pub returns : goal.returns
-returns c = (cc, slab_most c)
+returns c = (cc, slab_most (goal.at.returns c).After-field-2)

@@ -13,7 +13,7 @@ square-most : (c : After-twice_arm-arm) → squared c.twice_arm-arm.result ≤ s
 square-most c = let short = (arm_most (wall_within _ c.requires)).0 in rw c.twice_arm-arm.ensures (mul-le-mul short short)
 
 pub overflow_mul-result : goal.overflow_mul-result
-overflow_mul-result c = omega (arith, square-most c)
+overflow_mul-result c = omega (arith, square-most (goal.at.overflow_mul-result c).After-twice_arm-arm)
 
 pub returns : goal.returns
-returns c = (cc, square-most c)
+returns c = (cc, square-most (goal.at.returns c).After-twice_arm-arm)

@@ -40,21 +40,21 @@ law c =
 pub returns-then-past-eq0 : goal.returns-then-past-eq0
 returns-then-past-eq0 c =
     let peak = c.args.peak in
-    let none : reached c.before ≡ 0 = omega arith in
+    let none : reached (goal.at.returns-then-past-eq0 c).After-excess-past ≡ 0 = omega arith in
     let nothing : peak * 0 * 0 ≡ 0 = omega arith in
-    sym (law c.before ∙ rw (none, nothing) (up_of_zero _))
+    sym (law (goal.at.returns-then-past-eq0 c).After-excess-past ∙ rw (none, nothing) (up_of_zero _))
 
 pub overflow_mul-peak : goal.overflow_mul-peak
-overflow_mul-peak c = omega (arith, over_parts c.requires.0 (reached c.before) (short c.before).2)
+overflow_mul-peak c = omega (arith, over_parts c.requires.0 (reached (goal.at.overflow_mul-peak c).After-excess-past) (short (goal.at.overflow_mul-peak c).After-excess-past).2)
 
 pub returns : goal.returns
 returns c =
-    let below = c.before in
+    let below = c in
     let above = below.before.before in
     let excess = above.before.before.before in
     let s = excess.requires.0 in
     let few : reached excess < 2 ^ 41 = omega (arith, short excess) in
-    let peak = first 62 above.of.ensures (over_parts s (reached excess) (short excess).2) in
+    let peak = first 62 above.of.ensures (over_parts s (reached (goal.at.returns c).After-excess-past) (short (goal.at.returns c).After-excess-past).2) in
     let part = exactly 41 peak few (lit≤ tt) above.times-above.ensures in
     let under = exactly 41 (first 39 below.of-2.ensures (omega arith)) (omega arith) (lit≤ tt) below.times-below.ensures in
-    up_exact part under (heel_shear_fits s (omega (arith, short excess)) (short excess).1) c.quotient_up.ensures ∙ sym (law excess)
+    up_exact part under (heel_shear_fits s (omega (arith, short excess)) (short (goal.at.returns c).After-excess-past).1) c.quotient_up.ensures ∙ sym (law (goal.at.returns c).After-excess-past)

@@ -16,7 +16,7 @@ overflow_mul-arm-2 c = omega (arith, length_fits_lem c.requires.0.contact c.args
 
 pub returns : goal.returns
 returns c =
-    let below = c.before in
+    let below = c in
     let above = below.before.before in
     let start = above.before.before in
     let s = start.requires.0 in

@@ -16,7 +16,7 @@ overflow_mul-peak c = omega (arith, over_length c.requires.0 c.args.lt c.require
 
 pub returns-then-face-over : goal.returns-then-face-over
 returns-then-face-over c =
-    let above = c.before.before in
+    let above = c in
     let start = above.before.before.before in
     let s = start.requires.0 in
     let lt = first 35 above.of.ensures (over_length s start.args.lt start.requires.1) in
@@ -30,6 +30,6 @@ overflow_mul-peak-2 c = omega (arith, over_parts c.requires.0 c.args.over (omega
 
 pub returns : goal.returns
 returns c =
-    let start = c.before.before in
+    let start = c in
     let s = start.requires.0 in
     c.rounded_up.ensures ∙ sym (all _ _ _ s.contact.over_some s.contact.under_some start.args.lt (omega arith))

@@ -41,7 +41,7 @@ returns-then-value-gt-GREATEST c =
 pub returns : goal.returns
 unfolding asked_for is_number
 returns c =
-    let start = c.before.before.before in
+    let start = c in
     let end = c.loop-i in
     let past = c.loop-i-test.false in
     let least = le-leb _ _ start.if-count-lt1.false in

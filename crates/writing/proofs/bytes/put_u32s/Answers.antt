@@ -7,11 +7,11 @@ use Rattle.writing.proofs.Writing.{NumbersPut, no_number, next_room, next_number
 use Rattle.writing.proofs.bytes.put_u32s.Goals as goal
 
 pub put_u32-requires : goal.put_u32-requires
-put_u32-requires c = let turn = c.before.before in next_room turn.loop-k.invariant turn.loop-k-test.true
+put_u32-requires c = let turn = c in next_room turn.loop-k.invariant turn.loop-k-test.true
 
 pub loop-k-preserved : goal.loop-k-preserved
 loop-k-preserved c =
-    let put = c.before.before in
+    let put = c in
     let turn = put.before.before.before in
     next_number turn.loop-k.invariant turn.loop-k-test.true put.put_u32.ensures
 

@@ -22,7 +22,7 @@ returns-then-wall_count-number c = rw (in_length, ← c.wall_count.ensures, le-l
 pub returns : goal.returns
 unfolding entry_fits
 returns c =
-    let tests = c.before.before.before in
+    let tests = c in
     let start = tests.args in
     let number = get_or start.t2 0 0 in
     let walls = start.walls.now in

@@ -31,7 +31,7 @@ five from h =
 pub returns : goal.returns
 unfolding record_in
 returns c =
-    let start = c.before.before.before.before in
+    let start = c in
     let at = wall_fields * start.args.i in
     let walls = start.args.walls.now in
     rw (c.copy_from.ensures, ← drop-drop 1 at walls) (five (drop at walls) (omega (arith, start.requires, length-drop at walls)))

@@ -21,22 +21,18 @@ room : (c : Start) → let args = c.args in header_bytes + 4 * length args.walls
 room c = omega (arith, c.requires.1, file_length c.args.walls.now c.args.loads.now)
 
 pub put_header-requires : goal.put_header-requires
-put_header-requires c = let begun = c.before.before.before.before.before.before in omega (arith, few begun, room begun)
-
--- the header is put
-abbrev start : After-put_header → Start
-start c = c.before.before.before.before.before.before.before
+put_header-requires c = let begun = c in omega (arith, few begun, room begun)
 
 abbrev walls : After-put_header → List ℕ
-walls c = (start c).args.walls.now
+walls c = c.args.walls.now
 
 abbrev loads : After-put_header → List ℕ
-loads c = (start c).args.loads.now
+loads c = c.args.loads.now
 
 abbrev header : After-put_header → List ℕ
 header c = header_of (record_count wall_fields (walls c)) (record_count entry_fields (loads c))
 
-header-put : (c : After-put_header) → Put (header c) (start c).args.out.now header_bytes c.put_header.new.1.1.0
+header-put : (c : After-put_header) → Put (header c) c.args.out.now header_bytes c.put_header.new.1.1.0
 header-put c =
     let counted = c.before.before in
     record {
@@ -45,50 +41,42 @@ header-put c =
     }
 
 pub put_u32s-requires : goal.put_u32s-requires
-put_u32s-requires c = let headed = c.before.before.before in room_left (header-put headed) (omega (arith, room (start headed)))
+put_u32s-requires c = let headed = c in room_left (header-put (goal.at.put_u32s-requires c).After-put_header) (omega (arith, room headed))
 
--- and the walls behind it
-abbrev headed : After-put_u32s → After-put_header
-headed c = c.before.before.before.before
-
-walls-put : (c : After-put_u32s) → let h = headed c in
-    Put (header h ++ u32s_bytes (walls h)) (start h).args.out.now (header_bytes + 4 * length (walls h))
+walls-put : (c : After-put_u32s) → let h = c in
+    Put (header h ++ u32s_bytes (walls h)) h.args.out.now (header_bytes + 4 * length (walls h))
     (with_back header_bytes h.put_header.last.1.1.0 c.put_u32s.new.1.0)
-walls-put c = then_text (header-put (headed c)) (record { counted = sym (u32s_length (walls (headed c))); holds = c.put_u32s.ensures })
+walls-put c = then_text (header-put c) (record { counted = sym (u32s_length (walls c)); holds = c.put_u32s.ensures })
 
 pub put_u32s-requires-2 : goal.put_u32s-requires-2
-put_u32s-requires-2 c = let walled = c.before.before.before in room_left (walls-put walled) (omega (arith, room (start (headed walled))))
+put_u32s-requires-2 c = let walled = c in room_left (walls-put (goal.at.put_u32s-requires-2 c).After-put_u32s) (omega (arith, room (start walled)))
 
--- and the loads behind these
-abbrev walled : After-put_u32s-2 → After-put_u32s
-walled c = c.before.before.before.before
-
-file-put : (c : After-put_u32s-2) → let w = walled c in let h = headed w in
-    Put (file_of (walls h) (loads h)) (start h).args.out.now (header_bytes + 4 * length (walls h) + 4 * length (loads h))
+file-put : (c : After-put_u32s-2) → let w = c in let h = headed w in
+    Put (file_of (walls h) (loads h)) h.args.out.now (header_bytes + 4 * length (walls h) + 4 * length (loads h))
     (with_back (header_bytes + 4 * length (walls h)) (with_back header_bytes h.put_header.last.1.1.0 w.put_u32s.last.1.0) c.put_u32s-2.new.1.0)
 unfolding file_of
-file-put c = then_text (walls-put (walled c)) (record { counted = sym (u32s_length (loads (headed (walled c)))); holds = c.put_u32s-2.ensures })
+file-put c = then_text (walls-put c) (record { counted = sym (u32s_length (loads c)); holds = c.put_u32s-2.ensures })
 
 pub overflow_cast-wall_count : goal.overflow_cast-wall_count
-overflow_cast-wall_count c = omega (arith, few c.before.before.before.before)
+overflow_cast-wall_count c = omega (arith, few (goal.at.overflow_cast-wall_count c).Start)
 
 pub overflow_cast-load_count : goal.overflow_cast-load_count
-overflow_cast-load_count c = omega (arith, few c.before.before.before.before.before)
+overflow_cast-load_count c = omega (arith, few (goal.at.overflow_cast-load_count c).Start)
 
 pub slice_bounds-put_u32s-count : goal.slice_bounds-put_u32s-count
-slice_bounds-put_u32s-count c = put_within (header-put c.before.before)
+slice_bounds-put_u32s-count c = put_within (header-put (goal.at.slice_bounds-put_u32s-count c).After-put_header)
 
 pub slice_bounds-put_u32s-start : goal.slice_bounds-put_u32s-start
-slice_bounds-put_u32s-start c = put_within (header-put c.before.before)
+slice_bounds-put_u32s-start c = put_within (header-put (goal.at.slice_bounds-put_u32s-start c).After-put_header)
 
 pub slice_bounds-put_u32s-count-2 : goal.slice_bounds-put_u32s-count-2
-slice_bounds-put_u32s-count-2 c = put_within (walls-put c.before.before)
+slice_bounds-put_u32s-count-2 c = put_within (walls-put (goal.at.slice_bounds-put_u32s-count-2 c).After-put_u32s)
 
 pub slice_bounds-put_u32s-start-2 : goal.slice_bounds-put_u32s-start-2
-slice_bounds-put_u32s-start-2 c = put_within (walls-put c.before.before)
+slice_bounds-put_u32s-start-2 c = put_within (walls-put (goal.at.slice_bounds-put_u32s-start-2 c).After-put_u32s)
 
 pub shape_of-out : goal.shape_of-out
-shape_of-out c = let all = c.before.before in put_length (file-put all) (start (headed (walled all))).requires.1
+shape_of-out c = let all = c in put_length (file-put (goal.at.shape_of-out c).After-put_u32s-2) (start (headed all)).requires.1
 
 pub returns : goal.returns
-returns c = (file-put c.before.before).holds
+returns c = (file-put (goal.at.returns c).After-put_u32s-2).holds
