@@ -7,4 +7,4 @@ use Rattle.checks.proofs.has_failed.Goals as goal
 
 pub returns : goal.returns
 unfolding is_set
-returns c = rw (← c.Shift-of.ensures.0, and_mask (c.args.failures / 2 ^ c.Shift-of.result) 1)
+returns c = rw (← c.shift_of.ensures.0, and_mask (c.args.failures / 2 ^ c.shift_of.result) 1)

@@ -9,8 +9,8 @@ use Rattle.checks.proofs.with_check.Goals as goal
 
 pub returns-then-fails : goal.returns-then-fails
 returns-then-fails c =
-    let h : c.args.failures < 2 ^ c.Shift-of.result = omega arith in
-    rw (shl_exact 1 c.Shift-of.result 16 (lit< tt) (omega arith), or_shifted_r 1 c.Shift-of.result _ h, c.if-fails.true) (omega arith)
+    let h : c.args.failures < 2 ^ c.shift_of.result = omega arith in
+    rw (shl_exact 1 c.shift_of.result 16 (lit< tt) (omega arith), or_shifted_r 1 c.shift_of.result _ h, c.if-fails.true) (omega arith)
 
 pub returns-else-fails : goal.returns-else-fails
 returns-else-fails c = rw c.if-fails.false (omega arith)

@@ -1,22 +1,26 @@
 -- `job::places` meets its contract. The invariant: the table is that of the entries passed.
 use mathlib.Core.Path.{◌≡◌, ◌∙◌}
-use mathlib.Core.Logic.{⊎_elim}
 use Prim.Native.Nat.{◌-◌, ◌≤◌}
 use native.Mathlib.Omega.{arith}
 use borrow.Author.Tests.{leb-true, leb-false}
 use Rattle.rules.specs.JobFile.{entries}
 use Rattle.job.proofs.PlacesOfLoads.{Placed, begun, one_placed, none_placed, all_placed}
 use Rattle.job.proofs.places.Goals as goal
+use Rattle.job.proofs.places.Goals.{then-wall-ge1+then-wall, else-wall-ge1, else-wall-ge1-via-then-wall-ge1+else-wall, else-wall-ge1-via-else-wall-ge1}
 
 pub loop-i-preserved : goal.loop-i-preserved
 loop-i-preserved c =
     let placed = c.loop-i.invariant.1 in
     let its = c.entry_at-entry.ensures in (
       omega arith,
-      ⊎_elim
-          (λ w. rw w.4 (one_placed _ _ _ placed _ its (omega arith) (omega (arith, leb-true)) _ w.3.ensures))
-          (λ w. rw w.1 (none_placed _ _ _ placed _ its (⊎_elim (λ v low high. omega (arith, leb-false)) (λ v low high. omega arith) w.0.came)))
-          c.if-wall-ge1.branch,
+      elim c.if-wall-ge1.branch [
+        then-wall-ge1+then-wall w ↦ rw w.table-is (one_placed _ _ _ placed _ its (omega arith) (omega arith) _ w.with_place.ensures)
+      | else-wall-ge1 w ↦ rw w.table-is (none_placed _ _ _ placed _ its
+          (elim w.else-wall-ge1.branch [
+            else-wall-ge1-via-then-wall-ge1+else-wall v ↦ λ low high. omega arith
+          | else-wall-ge1-via-else-wall-ge1 v ↦ λ low high. omega arith
+          ]))
+      ],
     )
 
 pub returns : goal.returns

@@ -25,9 +25,9 @@ room : (c : After-load_numbers-load_numbers) → let lent = c.args in
     (c.wall_numbers-wall_numbers.result ≤ length lent.walls.now) × (c.load_numbers-load_numbers.result ≤ length lent.loads.now)
 room c =
     let lent = c.args in
-    let passed = c.before.before in
+    let worked = sym c.is_worked.ensures ∙ not-false _ c.if-not-is_worked.false-raw in
     let fits = taken_fits lent.file.now (length lent.walls.now) (length lent.loads.now)
-    (rw (← passed.taking_answer-answer.ensures, worked passed) tt) in
+    (rw (← c.taking_answer-answer.ensures, worked) tt) in
     omega (arith, fits, c.wall_numbers-wall_numbers.ensures.0, c.load_numbers-load_numbers.ensures.0)
 
 pub slice_bounds-read_u32s-end-2 : goal.slice_bounds-read_u32s-end-2
@@ -39,22 +39,12 @@ slice_bounds-read_u32s-end-4 c = sym (length-take-le _ _ (room (goal.at.slice_bo
 pub returns : goal.returns
 unfolding entries_at
 returns c =
-    let loads = c in
-    let placed = loads.before.before in
-    let walls = placed.before.before.before in
-    let counted = walls.before.before in
-    let passed = counted.before.before in
-    all_taken passed.taking_answer-answer.ensures (worked (goal.at.returns c).Else-not-is_worked) counted.wall_numbers-wall_numbers.ensures.0 counted.load_numbers-load_numbers.ensures.0
-    placed.entries_at.ensures.0 walls.read_u32s.ensures loads.read_u32s-2.ensures
+    all_taken c.taking_answer-answer.ensures (worked (goal.at.returns c).Else-not-is_worked) c.wall_numbers-wall_numbers.ensures.0 c.load_numbers-load_numbers.ensures.0
+    c.entries_at.ensures.0 c.read_u32s.ensures c.read_u32s-2.ensures
 
 pub slice_bounds-read_u32s-end : goal.slice_bounds-read_u32s-end
 slice_bounds-read_u32s-end c = (room (goal.at.slice_bounds-read_u32s-end c).After-load_numbers-load_numbers).0
 
-pub read_u32s-requires : goal.read_u32s-requires
-read_u32s-requires c = rw (← walls-lent c) (omega arith)
-
 pub slice_bounds-read_u32s-end-3 : goal.slice_bounds-read_u32s-end-3
 slice_bounds-read_u32s-end-3 c = (room (goal.at.slice_bounds-read_u32s-end-3 c).After-load_numbers-load_numbers).1
 
-pub read_u32s-requires-2 : goal.read_u32s-requires-2
-read_u32s-requires-2 c = rw (← loads-lent c) (omega arith)

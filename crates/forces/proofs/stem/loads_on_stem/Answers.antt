@@ -11,10 +11,8 @@ use Rattle.forces.proofs.stem.loads_on_stem.Goals as goal
 
 pub loop-i-preserved : goal.loop-i-preserved
 loop-i-preserved c =
-    let d = c in
-    let start = d.args in
-    let its = on_stem (base_thickness start.t1) in
-    one_more (its []) d.loop-i.invariant (omega arith) (c.on_stem.ensures ∙ sym (get_or-map its start.t2 _ []))
+    let its = on_stem (base_thickness c.args.wall) in
+    one_more (its []) c.loop-i.invariant (omega arith) (c.on_stem.ensures ∙ sym (get_or-map its c.args.loads _ []))
 
 pub loop-i-init : goal.loop-i-init
 loop-i-init c = none_filled (rw length-map c.well_formed.1.0.1.0.1) refl

@@ -15,33 +15,29 @@ use Rattle.forces.specs.Sorts.{weights_of, weighted_sum, Small}
 use Rattle.forces.specs.Tables.{stem_in_place}
 use Rattle.forces.proofs.OnStem.{stem_summed}
 use Rattle.forces.proofs.Summed.{Summable, stem_summable, small, sum_is, light, read_back}
-use Rattle.forces.proofs.stem.stem_action.Goals.{After-table_of_stem-table, Start}
+use Rattle.forces.proofs.stem.stem_action.Goals.{After-table_of_stem-table}
 use Rattle.forces.proofs.stem.stem_action.Goals as goal
 
 -- the stem's components can be summed
-summable : (c : Start) → Summable c.args.loads (stem_in_place c.args.wall c.args.loads)
-summable c = stem_summable _ _ (fit _ _ c.requires.0)
-
 table-small : (c : After-table_of_stem-table) → Small c.table_of_stem-table.result c.args.sorts
-table-small c = small (summable c.before) c.table_of_stem-table.ensures c.requires.1
+table-small c = small (stem_summable _ _ (fit _ _ c.requires.0)) c.table_of_stem-table.ensures c.requires.1
 
 -- the code's sum of a column, read back from its bits
 summed : (c : After-table_of_stem-table) {sum : ℤ} {weights : List ℤ} (column : ℕ)
     → sum ≡ weighted_sum c.table_of_stem-table.result c.args.sorts weights column → mag sum < 2 ^ 63 → weights ≡ weights_of tenths
     → to_z w64 (of_z w64 sum) ≡ column_sum tenths column (stem_table c.args.wall c.args.loads)
 summed c column e ok f =
-    let start = c.before in
+    let summable = stem_summable _ _ (fit _ _ c.requires.0) in
     read_back
-    (e ∙ sum_is (summable start) c.table_of_stem-table.ensures start.requires.1 start.well_formed.1.0.1.0.1 tenths column f ∙ stem_summed tenths column _ _) ok
+    (e ∙ sum_is summable c.table_of_stem-table.ensures c.requires.1 c.well_formed.1.0.1.0.1 tenths column f ∙ stem_summed tenths column _ _) ok
 
 pub returns : goal.returns
 unfolding stem_action
 returns c =
-    let second = c in
-    let first = second.before in
+    let table = (goal.at.returns c).After-table_of_stem-table in
     cc (
-      summed first.before horizontal first.column_sum-shear.ensures first.column_sum-shear.type_inv refl,
-      summed first.before moment second.column_sum-moment.ensures second.column_sum-moment.type_inv refl,
+      summed table horizontal c.column_sum-shear.ensures c.column_sum-shear.type_inv refl,
+      summed table moment c.column_sum-moment.ensures c.column_sum-moment.type_inv refl,
     )
 
 pub table_of_stem-table-requires : goal.table_of_stem-table-requires

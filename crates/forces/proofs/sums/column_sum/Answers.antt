@@ -14,14 +14,8 @@ use Rattle.whole.proofs.Integer.{abs_add, abs_weighted, fits_abs, back}
 use Rattle.forces.specs.Tables.{components}
 use Rattle.forces.specs.Sorts.{weighted, weighted_sum, Small, Light}
 use Rattle.forces.proofs.Summed.{sum_within}
+use Rattle.forces.proofs.sums.column_sum.Invariants.{Passed}
 use Rattle.forces.proofs.sums.column_sum.Goals as goal
-
--- of a table that is small and weights that are light the first i rows are summed
-record Passed (table : List (List ℤ)) (sorts : List ℕ) (weights : List ℤ) (column sum i : ℕ) : Type 0 where
-  within : i ≤ components
-  small : Small table sorts
-  light : Light weights
-  same : sum ≡ of_z w64 (sum_to (weighted table sorts weights column) i)
 
 -- what is read back of a number's bits
 abbrev read : ℤ → ℤ

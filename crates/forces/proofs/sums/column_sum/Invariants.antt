@@ -16,5 +16,12 @@ use Rattle.forces.specs.Sorts.{weighted, weighted_sum, Small, Light}
 use Rattle.forces.proofs.Summed.{sum_within}
 use Rattle.forces.proofs.sums.column_sum.Given as goal
 
+-- of a table that is small and weights that are light the first i rows are summed
+pub record Passed (table : List (List ℤ)) (sorts : List ℕ) (weights : List ℤ) (column sum i : ℕ) : Type 0 where
+  pub within : i ≤ components
+  pub small : Small table sorts
+  pub light : Light weights
+  pub same : sum ≡ of_z w64 (sum_to (weighted table sorts weights column) i)
+
 abbrev pub invariant-loop-i : goal.invariant-loop-i
 invariant-loop-i l = Passed l.table l.sorts l.weights l.column l.sum l.i

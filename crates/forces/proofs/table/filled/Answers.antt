@@ -22,7 +22,7 @@ pub loop-i-preserved : goal.loop-i-preserved
 loop-i-preserved c =
     let now = c in
     let loads = now.args.loads in
-    next_made (part_row 2) (part_row 3) loads now.loop-i.invariant [] [] _ _ _ _ (omega arith) refl refl c.Load-row.ensures c.load_row-in-loop-i.ensures
+    next_made (part_row 2) (part_row 3) loads now.loop-i.invariant [] [] _ _ _ _ (omega arith) refl refl c.load_row.ensures c.load_row-in-loop-i.ensures
 
 pub returns : goal.returns
 unfolding rows_in

@@ -21,15 +21,14 @@ returns-then-wall_count-number c = rw (walls_length, ← c.wall_count.ensures, l
 pub returns : goal.returns
 unfolding entry_fits
 returns c =
-    let tests = c in
-    let start = tests.args in
-    let number = get_or start.t2 0 0 in
+    let start = c.args in
+    let number = get_or start.entry 0 0 in
     let there : number - 1 < wall_count start.file.now = omega arith in
     rw (
       walls_length,
-      ← tests.wall_count.ensures,
-      le-leb _ _ tests.if-number-lt1.false,
-      le-leb _ _ tests.if-wall_count-number.false,
+      ← c.wall_count.ensures,
+      le-leb _ _ c.if-number-lt1.false,
+      le-leb _ _ c.if-wall_count-number.false,
       wall_at_lem start.file.now (number - 1) there,
       ← by_lengths (wall_at start.file.now (number - 1)),
       ← c.lengths_at-lengths.ensures,

@@ -39,6 +39,6 @@ pub overflow_mul-d-2 : goal.overflow_mul-d-2
 overflow_mul-d-2 c = two_fit (omega arith)
 
 pub overflow_add-d : goal.overflow_add-d
-overflow_add-d c = (λ c.
+overflow_add-d c =
     let a = c.args in
-    omega (arith, root_most a.m a.fcu a.d (omega arith) _ (rw c.least_product.ensures at c.square_root-root.ensures)))
+    omega (arith, root_most a.m a.fcu a.d (omega arith) _ (rw c.least_product.ensures at c.square_root-root.ensures))

@@ -23,14 +23,12 @@ needed_area-needed-requires c = (moment_most _ _ _ (omega arith) (tested (goal.a
 pub returns : goal.returns
 unfolding required_area steel_fails
 returns c =
-    let d = c in
-    let start = d.before.before.before in
     rw (
       c.provided_area.ensures,
       c.greater-required.ensures,
-      d.needed_area-needed.ensures,
-      d.lever_arm.ensures.0,
+      c.needed_area-needed.ensures,
+      c.lever_arm.ensures.0,
       c.least_area.ensures,
-      start.twice_depth-d.ensures.0,
-      tested start ∙ d.if-needs_compression.false,
+      c.twice_depth-d.ensures.0,
+      tested (goal.at.returns c).After-needs_compression ∙ c.if-needs_compression.false,
     )
