@@ -14,5 +14,4 @@ pressed_by-requires-2 c = rw (c.base_length-length.ensures, c.forces_on-forces.e
 pub returns : goal.returns
 unfolding block_under bearing_of
 returns c =
-    let d = c in
-    rw (c.pressed_by-2.ensures, c.pressed_by.ensures, d.base_length-length.ensures, d.forces_on-forces.ensures)
+    rw (c.pressed_by-2.ensures, c.pressed_by.ensures, c.base_length-length.ensures, c.forces_on-forces.ensures)

@@ -35,15 +35,13 @@ sum c = omega (arith, most c, c.loop-i.invariant.small)
 pub returns-then-not-is_digit : goal.returns-then-not-is_digit
 unfolding digits_behind
 returns-then-not-is_digit c =
-    let turn = c in
-    let no = not_all turn.loop-i.invariant turn.loop-i-test.true (sym c.is_digit.ensures ∙ not-true _ c.if-not-is_digit.true-raw) in
+    let no = not_all c.loop-i.invariant c.loop-i-test.true (sym c.is_digit.ensures ∙ not-true _ c.if-not-is_digit.true-raw) in
     rw (no, and-false)
 
 pub loop-i-preserved : goal.loop-i-preserved
 unfolding told
 loop-i-preserved c =
-    let turn = c in
-    rw c.lesser-value.ensures (one_more turn.loop-i.invariant turn.loop-i-test.true (digit (goal.at.loop-i-preserved c).Else-not-is_digit))
+    rw c.lesser-value.ensures (one_more c.loop-i.invariant c.loop-i-test.true (digit (goal.at.loop-i-preserved c).Else-not-is_digit))
 
 pub returns : goal.returns
 unfolding digits_behind told

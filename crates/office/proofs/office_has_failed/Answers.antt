@@ -6,42 +6,6 @@ use Rattle.office.specs.Packed.{has_failed}
 use Rattle.office.proofs.Asked.{no_check}
 use Rattle.office.proofs.office_has_failed.Goals as goal
 
-pub has_failed-requires : goal.has_failed-requires
-unfolding has_failed
-has_failed-requires c = search rules
-
-pub has_failed-requires-in-2 : goal.has_failed-requires-in-2
-unfolding has_failed
-has_failed-requires-in-2 c = search rules
-
-pub has_failed-requires-in-4 : goal.has_failed-requires-in-4
-unfolding has_failed
-has_failed-requires-in-4 c = search rules
-
-pub has_failed-requires-in-8 : goal.has_failed-requires-in-8
-unfolding has_failed
-has_failed-requires-in-8 c = search rules
-
-pub has_failed-requires-in-16 : goal.has_failed-requires-in-16
-unfolding has_failed
-has_failed-requires-in-16 c = search rules
-
-pub has_failed-requires-in-32 : goal.has_failed-requires-in-32
-unfolding has_failed
-has_failed-requires-in-32 c = search rules
-
-pub has_failed-requires-in-64 : goal.has_failed-requires-in-64
-unfolding has_failed
-has_failed-requires-in-64 c = search rules
-
-pub has_failed-requires-in-128 : goal.has_failed-requires-in-128
-unfolding has_failed
-has_failed-requires-in-128 c = search rules
-
-pub has_failed-requires-in-256 : goal.has_failed-requires-in-256
-unfolding has_failed
-has_failed-requires-in-256 c = search rules
-
 pub returns-in-1 : goal.returns-in-1
 unfolding has_failed
 returns-in-1 c = rw c.in_default.keys1 c.has_failed.ensures

@@ -17,9 +17,8 @@ use Rattle.sheet.proofs.drawing.Goals as goal
 
 pub returns-then-not-is_worked : goal.returns-then-not-is_worked
 returns-then-not-is_worked c =
-    let asked = c in
-    let found = asked.first_refusal-answer in
-    let no = refused found.ensures asked.is_worked.ensures c.if-not-is_worked.true-raw in
+    let found = c.first_refusal-answer in
+    let no = refused found.ensures c.is_worked.ensures c.if-not-is_worked.true-raw in
     record { answered = rw (c.undrawn.ensures, found.ensures) (sym (refused_drawing _ _ no)) }
 
 worked : (c : Else-not-is_worked) → accepted c.args.job.now ≡ true
@@ -32,16 +31,14 @@ returns-then-wall-lt1 c =
 
 pub returns-then-walls-wall : goal.returns-then-walls-wall
 returns-then-walls-wall c =
-    let counted = c in
-    let asked = counted.args in
-    let none = lt-leb asked.wall (wall_count asked.job.now) (omega (arith, c.if-walls-wall.true, counted.wall_count-walls.ensures)) in
+    let asked = c.args in
+    let none = lt-leb asked.wall (wall_count asked.job.now) (omega (arith, c.if-walls-wall.true, c.wall_count-walls.ensures)) in
     record { answered = rw c.undrawn-then-walls-wall.ensures (sym (no_such_wall _ _ (worked (goal.at.returns-then-walls-wall c).Else-not-is_worked) (rw (walls_length, none, and-false)))) }
 
 -- past the other two, the wall is there
 there : (c : Else-walls-wall) → let asked = c.args in T (accepted asked.job.now) × (asked.wall - 1 < wall_count asked.job.now)
 there c =
-    let counted = c.before.before in
-    (rw (worked counted.before) tt, omega (arith, c.if-wall-lt1.false, c.if-walls-wall.false, counted.wall_count-walls.ensures))
+    (rw (worked c.before) tt, omega (arith, c.if-wall-lt1.false, c.if-walls-wall.false, c.wall_count-walls.ensures))
 
 pub returns : goal.returns
 returns c =

@@ -7,9 +7,8 @@ use Rattle.sheet.proofs.line_at.Goals as goal
 
 pub returns : goal.returns
 returns c =
-    let start = c in
-    rw (c.line-line.ensures, c.loads_at-loads.ensures, c.wall_at-wall.ensures, start.requires.2)
-    (line_there start.args.job.now start.args.i start.requires.1 start.requires.0)
+    rw (c.line-line.ensures, c.loads_at-loads.ensures, c.wall_at-wall.ensures, c.requires.2)
+    (line_there c.args.job.now c.args.i c.requires.1 c.requires.0)
 
 pub overflow_add-i : goal.overflow_add-i
 overflow_add-i c = let start = c in omega (arith, wall_count_lem start.args.job.now start.requires.0)

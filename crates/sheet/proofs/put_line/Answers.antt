@@ -18,13 +18,12 @@ loop-k-init c = (omega arith, c.well_formed.0.1.0.1, refl, refl)
 
 pub loop-k-preserved : goal.loop-k-preserved
 loop-k-preserved c =
-    let start = c in
     let loop = c.loop-k in (
       omega arith,
       loop.invariant.1,
       simp length-set loop.invariant.2,
-      rw (to_z-of_z w64 (get_or start.args.numbers loop.k (pos 0)) (record { sfits = c.out.given }), loop.invariant.3)
-          (onto_one_more start.args.numbers start.args.out.now loop.k (pos 0) (omega (arith, loop.invariant.1)) (omega (arith, start.requires, loop.invariant.1))),
+      rw (to_z-of_z w64 (get_or c.args.numbers loop.k (pos 0)) (record { sfits = c.out.given }), loop.invariant.3)
+          (onto_one_more c.args.numbers c.args.out.now loop.k (pos 0) (omega (arith, loop.invariant.1)) (omega (arith, c.requires, loop.invariant.1))),
     )
 
 pub returns : goal.returns

@@ -21,17 +21,15 @@ put_line-requires c = room_behind c.loop-i.invariant.2 (omega arith)
 
 pub loop-i-preserved : goal.loop-i-preserved
 loop-i-preserved c =
-    let written = c in
-    let turn = written.before.before.before in
-    let loop = turn.loop-i in
-    let file = turn.args.job.now in
+    let loop = c.loop-i in
+    let file = c.args.job.now in
     let next : line_numbers * (loop.i + 1) ≡ line_numbers * loop.i + line_numbers = omega arith in
     let sixteen = line_sixteen file loop.i (omega (arith, loop.invariant.0.all)) in (
       one_passed loop.invariant.0 (omega arith),
       loop.invariant.1,
       rw next
           (one_further loop.invariant.2 (omega (arith, sheet_length file)) (omega arith)
-          (record { counted = sym sixteen; holds = rw written.line_at-line.ensures at c.put_line.ensures })),
+          (record { counted = sym sixteen; holds = rw c.line_at-line.ensures at c.put_line.ensures })),
     )
 
 pub returns : goal.returns

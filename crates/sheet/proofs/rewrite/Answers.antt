@@ -26,19 +26,17 @@ room c = c.if-out-lt-FILE_ROOM.false
 
 pub returns-then-not-is_worked : goal.returns-then-not-is_worked
 returns-then-not-is_worked c =
-    let asked = c in
-    let taken = asked.before.before.before.before in
-    let refused : T (not (is_worked taken.take_apart-taken.result.answer)) = rw (sym asked.is_worked.ensures ∙ not-true _ asked.if-not-is_worked.true-raw) tt in
+    let taken = c.before.before.before.before in
+    let refused : T (not (is_worked taken.take_apart-taken.result.answer)) = rw (sym c.is_worked.ensures ∙ not-true _ c.if-not-is_worked.true-raw) tt in
     put_fitting file_room _ (room (goal.at.returns-then-not-is_worked c).After-take_apart-taken)
     (rw (← refusal_printed taken.take_apart-taken.ensures (omega arith) (omega arith) refused)
     (put_whole line_room _ (omega (arith, room taken)) c.refusal_text.ensures))
 
 pub returns : goal.returns
 returns c =
-    let asked = c in
-    let taken = asked.before.before.before.before in
+    let taken = c.before.before.before.before in
     let apart = taken.take_apart-taken.ensures in
-    let worked : T (is_worked taken.take_apart-taken.result.answer) = rw (sym asked.is_worked.ensures ∙ not-false _ asked.if-not-is_worked.false-raw) tt in
+    let worked : T (is_worked taken.take_apart-taken.result.answer) = rw (sym c.is_worked.ensures ∙ not-false _ c.if-not-is_worked.false-raw) tt in
     let small = rewritten_small _ (records_taken apart worked).0 in
     put_fitting file_room _ (room (goal.at.returns c).After-take_apart-taken) (written_again apart worked c.write-written.ensures (omega (arith, small, room taken))).1
 

@@ -13,20 +13,15 @@ returns-then-out-lt-SHEET_ROOM c = put_nothing _ _ c.if-out-lt-SHEET_ROOM.true
 pub returns-then-not-is_worked : goal.returns-then-not-is_worked
 unfolding printed
 returns-then-not-is_worked c =
-    let chosen = c in
-    let found = chosen.before.before in
-    let room = found.if-out-lt-SHEET_ROOM.false in
+    let room = c.if-out-lt-SHEET_ROOM.false in
     put_fitting sheet_room _ room
-    (rw (refused found.first_refusal-answer.ensures chosen.is_worked.ensures chosen.if-not-is_worked.true-raw, ← found.first_refusal-answer.ensures)
+    (rw (refused c.first_refusal-answer.ensures c.is_worked.ensures c.if-not-is_worked.true-raw, ← c.first_refusal-answer.ensures)
     (put_whole line_room _ (omega arith) c.refusal_text.ensures))
 
 pub put_texts-requires : goal.put_texts-requires
 put_texts-requires c =
-    let chosen = c in
-    let found = chosen.before.before in
-    (rw (passed found.first_refusal-answer.ensures chosen.is_worked.ensures chosen.if-not-is_worked.false-raw) tt, found.if-out-lt-SHEET_ROOM.false)
+    (rw (passed c.first_refusal-answer.ensures c.is_worked.ensures c.if-not-is_worked.false-raw) tt, c.if-out-lt-SHEET_ROOM.false)
 
 pub returns : goal.returns
 returns c =
-    let chosen = c in
-    put_fitting sheet_room _ chosen.if-out-lt-SHEET_ROOM.false c.put_texts.ensures
+    put_fitting sheet_room _ c.if-out-lt-SHEET_ROOM.false c.put_texts.ensures

@@ -19,32 +19,11 @@ pub returns-then-out-lt-LINE_ROOM : goal.returns-then-out-lt-LINE_ROOM
 unfolding drawing_text
 returns-then-out-lt-LINE_ROOM c = put_nothing _ _ c.if-out-lt-LINE_ROOM.true
 
-pub is_worked-requires : goal.is_worked-requires
-unfolding drawing_text
-is_worked-requires c = search rules
-
-pub refusal_text-requires : goal.refusal_text-requires
-unfolding drawing_text
-refusal_text-requires c = search rules
-
-pub shape_of-out-then-not-is_worked : goal.shape_of-out-then-not-is_worked
-unfolding drawing_text
-shape_of-out-then-not-is_worked c = search rules
-
 pub returns-then-not-is_worked : goal.returns-then-not-is_worked
 unfolding drawing_text
 returns-then-not-is_worked c = rw (refused (goal.at.returns-then-not-is_worked c).Then-not-is_worked) c.refusal_text.ensures
 
-pub put_drawn-requires : goal.put_drawn-requires
-unfolding drawing_text
-put_drawn-requires c = search rules
-
-pub shape_of-out : goal.shape_of-out
-unfolding drawing_text
-shape_of-out c = search rules
-
 pub returns : goal.returns
 unfolding drawing_text
-returns c = (λ c.
-    let drawn = c in
-    rw (worked (goal.at.returns c).Else-not-is_worked) (put_fitting _ _ drawn.if-out-lt-LINE_ROOM.false c.put_drawn.ensures))
+returns c =
+    rw (worked (goal.at.returns c).Else-not-is_worked) (put_fitting _ _ c.if-out-lt-LINE_ROOM.false c.put_drawn.ensures)

@@ -10,12 +10,9 @@ use Rattle.text.proofs.line_text.Goals as goal
 pub returns : goal.returns
 unfolding line_text
 returns c =
-    let failures = c in
-    let number = failures.before.before.before.before.before in
-    let start = number.before.before.before.before.before in
-    let same = as_is start.args.numbers start.well_formed.0.0 start.well_formed.0.1.1 in
-    let front = then (rw (same 0) at number.put_signed-number_end.ensures) (rw (same 1) at failures.put_failures-failures_end.ensures) in
-    put_fitting _ _ number.if-out-lt-LINE_ROOM.false (at_start (then front c.put_rest.ensures) (omega arith))
+    let same = as_is c.args.numbers c.well_formed.0.0 c.well_formed.0.1.1 in
+    let front = then (rw (same 0) at c.put_signed-number_end.ensures) (rw (same 1) at c.put_failures-failures_end.ensures) in
+    put_fitting _ _ c.if-out-lt-LINE_ROOM.false (at_start (then front c.put_rest.ensures) (omega arith))
 
 pub returns-then-out-lt-LINE_ROOM : goal.returns-then-out-lt-LINE_ROOM
 returns-then-out-lt-LINE_ROOM c = put_nothing _ _ c.if-out-lt-LINE_ROOM.true

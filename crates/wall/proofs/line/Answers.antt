@@ -38,8 +38,7 @@ numbers c = rw (c.worked.ensures, c.blocks-borne.ensures, worked-is _ _ (fitted 
 
 pub numbers_of-requires : goal.numbers_of-requires
 numbers_of-requires c =
-    let start = c in
-    rw (numbers (goal.at.numbers_of-requires c).After-worked) (line_small _ (omega (arith, start.ranges.number)) (fitted (goal.at.numbers_of-requires c).Else-not-is_worked))
+    rw (numbers (goal.at.numbers_of-requires c).After-worked) (line_small _ (omega (arith, c.ranges.number)) (fitted (goal.at.numbers_of-requires c).Else-not-is_worked))
 
 pub returns : goal.returns
 returns c =

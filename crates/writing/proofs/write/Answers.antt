@@ -29,9 +29,7 @@ fits c =
 
 pub returns : goal.returns
 returns c =
-    let put = c in
-    let answered = put.before.before in
-    all_written answered.writing_answer-answer.ensures (worked (goal.at.returns c).Else-not-is_worked) c.file_bytes.ensures put.put_file.ensures
+    all_written c.writing_answer-answer.ensures (worked (goal.at.returns c).Else-not-is_worked) c.file_bytes.ensures c.put_file.ensures
 
 pub put_file-requires : goal.put_file-requires
 put_file-requires c = fits (goal.at.put_file-requires c).Else-not-is_worked

@@ -20,5 +20,4 @@ block_above_zero-requires c = rw (vertical-is (goal.at.block_above_zero-requires
 
 pub returns : goal.returns
 returns c =
-    let start = c in
-    c.block_above_zero.ensures ∙ rw (vertical-is (goal.at.returns c).After-above_zero, moment-is (goal.at.returns c).After-above_zero-2) (sym (whole_block _ _ _ start.requires.0))
+    c.block_above_zero.ensures ∙ rw (vertical-is (goal.at.returns c).After-above_zero, moment-is (goal.at.returns c).After-above_zero-2) (sym (whole_block _ _ _ c.requires.0))

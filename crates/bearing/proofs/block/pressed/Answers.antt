@@ -8,15 +8,13 @@ use Rattle.bearing.proofs.block.pressed.Goals as goal
 
 pub returns-then-greater-gt-GREATEST_PEAK : goal.returns-then-greater-gt-GREATEST_PEAK
 returns-then-greater-gt-GREATEST_PEAK c =
-    let d = c in
-    let high : greatest_peak < d.greater.result = omega arith in
-    rw c.no_block.ensures (not_given _ _ _ _ d.report-toe.ensures d.report-heel.ensures (rw d.greater.ensures at high))
+    let high : greatest_peak < c.greater.result = omega arith in
+    rw c.no_block.ensures (not_given _ _ _ _ c.report-toe.ensures c.report-heel.ensures (rw c.greater.ensures at high))
 
 pub returns : goal.returns
 returns c =
-    let d = c in
-    let low : d.greater.result ≤ greatest_peak = omega arith in
-    is_given_lem _ _ _ _ d.report-toe.ensures d.report-heel.ensures (rw d.greater.ensures at low)
+    let low : c.greater.result ≤ greatest_peak = omega arith in
+    is_given_lem _ _ _ _ c.report-toe.ensures c.report-heel.ensures (rw c.greater.ensures at low)
 
 pub report-toe-requires : goal.report-toe-requires
 report-toe-requires c = c.requires.toe

@@ -13,7 +13,6 @@ overflow_mul-scale c =
 pub returns : goal.returns
 unfolding reported
 returns c =
-    let first = c in
-    let over = to_z-of_z w64 first.args.pressure.over (record { sfits = first.struct_told.given.0.1 }) in
-    let under = to_z-of_z w64 first.args.pressure.under (record { sfits = c.struct_told-2-1.given.1.0.1 }) in
-    rw (c.rounded_up.ensures, c.above_zero-2.ensures, first.above_zero.ensures, over, under)
+    let over = to_z-of_z w64 c.args.pressure.over (record { sfits = c.struct_told.given.0.1 }) in
+    let under = to_z-of_z w64 c.args.pressure.under (record { sfits = c.struct_told-2-1.given.1.0.1 }) in
+    rw (c.rounded_up.ensures, c.above_zero-2.ensures, c.above_zero.ensures, over, under)

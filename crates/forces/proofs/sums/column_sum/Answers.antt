@@ -1,4 +1,4 @@
--- `forces::sums::column_sum` meets its contract. The invariant: the sum is that of the rows passed, in bits.
+-- `forces::sums::column_sum` meets its contract. The invariant: the sum is that of the rows passed.
 use mathlib.Core.Path.{◌≡◌, refl, ap, ◌∙◌}
 use mathlib.Core.List.{List, []}
 use Prim.Native.Nat.{ℕ, ◌*◌, ◌-◌, ◌≤◌}
@@ -8,6 +8,7 @@ use lib.IntN.{ℤ, pos, nat_abs, ◌+ℤ◌, ◌*ℤ◌}
 use lib.ListN.{get_or}
 use mir.Syntax.{w64}
 use mir.Val.{SFits, of_z, to_z}
+use mir.ValLaws.{to_z-of_z}
 use Rattle.whole.specs.Sum.{sum_to}
 use Rattle.rules.proofs.Sizes.{greatest_cell}
 use Rattle.whole.proofs.Integer.{abs_add, abs_weighted, fits_abs, back}
@@ -22,7 +23,7 @@ abbrev read : ℤ → ℤ
 read z = to_z w64 (of_z w64 z)
 
 -- the next row's weight times its cell fits, and so does that on the sum; each is read back as it is
-module _ {table : List (List ℤ)} {sorts : List ℕ} {weights : List ℤ} {column sum i : ℕ} (passed : Passed table sorts weights column sum i) where
+module _ {table : List (List ℤ)} {sorts : List ℕ} {weights : List ℤ} {column : ℕ} {sum : ℤ} {i : ℕ} (passed : Passed table sorts weights column sum i) where
   abbrev weight : ℤ
   weight = get_or weights (get_or sorts i 0) (pos 0)
 
@@ -45,18 +46,15 @@ module _ {table : List (List ℤ)} {sorts : List ℕ} {weights : List ℤ} {colu
   product-fits : SFits w64 (read weight *ℤ read cell)
   product-fits = rw product (fits_abs (weight *ℤ cell) (omega (arith, sizes)))
 
-  sum_back : to_z w64 sum ≡ summed
-  sum_back = rw passed.same (back summed (omega (arith, sizes)))
+  next : sum +ℤ read (read weight *ℤ read cell) ≡ summed +ℤ weight *ℤ cell
+  next = rw (passed.same, product, back (weight *ℤ cell) (omega (arith, sizes)))
 
-  next : to_z w64 sum +ℤ read (read weight *ℤ read cell) ≡ summed +ℤ weight *ℤ cell
-  next = rw (sum_back, product, back (weight *ℤ cell) (omega (arith, sizes)))
-
-  next_fits : SFits w64 (to_z w64 sum +ℤ read (read weight *ℤ read cell))
+  next_fits : SFits w64 (sum +ℤ read (read weight *ℤ read cell))
   next_fits = rw next (fits_abs (summed +ℤ weight *ℤ cell) (omega (arith, abs_add summed (weight *ℤ cell), sizes)))
 
-  all-summed : components ≤ i → to_z w64 sum ≡ weighted_sum table sorts weights column
+  all-summed : components ≤ i → sum ≡ weighted_sum table sorts weights column
   unfolding weighted_sum
-  all-summed h = let all : i ≡ components = omega arith in sum_back ∙ rw all
+  all-summed h = let all : i ≡ components = omega arith in passed.same ∙ rw all
 
 pub loop-i-init : goal.loop-i-init
 unfolding sum_to
@@ -66,7 +64,7 @@ pub loop-i-preserved : goal.loop-i-preserved
 unfolding sum_to
 loop-i-preserved c =
     let passed = c.loop-i.invariant in
-    record { within = omega arith; small = passed.small; light = passed.light; same = rw add-one (ap (of_z w64) (next passed)) }
+    record { within = omega arith; small = passed.small; light = passed.light; same = rw add-one (to_z-of_z w64 _ (next_fits passed) ∙ next passed) }
 
 pub offset_bounds-weights-sorts : goal.offset_bounds-weights-sorts
 offset_bounds-weights-sorts c = omega (arith, c.loop-i.invariant.small.sorted c.loop-i.i)

@@ -1,4 +1,4 @@
--- `forces::sums::column_sum` meets its contract. The invariant: the sum is that of the rows passed, in bits.
+-- `forces::sums::column_sum` meets its contract. The invariant: the sum is that of the rows passed.
 use mathlib.Core.Path.{◌≡◌, refl, ap, ◌∙◌}
 use mathlib.Core.List.{List, []}
 use Prim.Native.Nat.{ℕ, ◌*◌, ◌-◌, ◌≤◌}
@@ -17,11 +17,11 @@ use Rattle.forces.proofs.Summed.{sum_within}
 use Rattle.forces.proofs.sums.column_sum.Given as goal
 
 -- of a table that is small and weights that are light the first i rows are summed
-pub record Passed (table : List (List ℤ)) (sorts : List ℕ) (weights : List ℤ) (column sum i : ℕ) : Type 0 where
+pub record Passed (table : List (List ℤ)) (sorts : List ℕ) (weights : List ℤ) (column : ℕ) (sum : ℤ) (i : ℕ) : Type 0 where
   pub within : i ≤ components
   pub small : Small table sorts
   pub light : Light weights
-  pub same : sum ≡ of_z w64 (sum_to (weighted table sorts weights column) i)
+  pub same : sum ≡ sum_to (weighted table sorts weights column) i
 
 abbrev pub invariant-loop-i : goal.invariant-loop-i
 invariant-loop-i l = Passed l.table l.sorts l.weights l.column l.sum l.i

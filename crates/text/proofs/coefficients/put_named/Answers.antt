@@ -8,10 +8,8 @@ use Rattle.text.proofs.coefficients.put_named.Goals as goal
 pub returns : goal.returns
 unfolding named_text
 returns c =
-    let end = c in
-    let active = end.before.before.before.before in
-    let active-name = active.before.before.before.before in
+    let active-name = c.before.before.before.before in
     let rest = active-name.before.before.before.before.before in
     let rest-name = rest.before.before.before.before in
     let first = then rest-name.put_word-rest_name_end.ensures rest.put_decimal-rest_end.ensures in
-    at_start (then (then (then first active-name.put_word-active_name_end.ensures) active.put_decimal-active_end.ensures) end.put_byte.ensures) (omega arith)
+    at_start (then (then (then first active-name.put_word-active_name_end.ensures) c.put_decimal-active_end.ensures) c.put_byte.ensures) (omega arith)

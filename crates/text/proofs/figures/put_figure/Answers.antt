@@ -8,5 +8,4 @@ use Rattle.text.proofs.figures.put_figure.Goals as goal
 pub returns : goal.returns
 unfolding figure_text figures_text
 returns c =
-    let bits = c in
-    rw append-nil (then bits.put_byte-space_end.ensures (rw bits.bits_of.ensures at c.put_hex.ensures))
+    rw append-nil (then c.put_byte-space_end.ensures (rw c.bits_of.ensures at c.put_hex.ensures))

@@ -6,6 +6,5 @@ use Rattle.text.proofs.figures.put_pair.Goals as goal
 
 pub returns : goal.returns
 returns c =
-    let first = c in
-    let args = first.args in
-    then_figures (args.x ∷ []) (args.y ∷ []) first.put_figure-first_end.ensures c.put_figure.ensures
+    let args = c.args in
+    then_figures (args.x ∷ []) (args.y ∷ []) c.put_figure-first_end.ensures c.put_figure.ensures

@@ -12,10 +12,9 @@ use Rattle.text.proofs.letters.put_word.Goals as goal
 
 pub loop-i-preserved : goal.loop-i-preserved
 loop-i-preserved c =
-    let turn = c in
-    let word = turn.args.word.now in
-    let next : take (turn.loop-i.i + 1) word ≡ take turn.loop-i.i word ++ get_or word turn.loop-i.i 0 ∷ [] = rw (add-one, take-suc word turn.loop-i.i 0 (omega arith)) in
-    (refl, omega arith, omega arith, rw next (then turn.loop-i.invariant.3 c.put_byte-next.ensures))
+    let word = c.args.word.now in
+    let next : take (c.loop-i.i + 1) word ≡ take c.loop-i.i word ++ get_or word c.loop-i.i 0 ∷ [] = rw (add-one, take-suc word c.loop-i.i 0 (omega arith)) in
+    (refl, omega arith, omega arith, rw next (then c.loop-i.invariant.3 c.put_byte-next.ensures))
 
 pub returns : goal.returns
 returns c =

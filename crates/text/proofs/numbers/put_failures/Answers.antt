@@ -7,7 +7,5 @@ use Rattle.text.proofs.numbers.put_failures.Goals as goal
 
 pub returns : goal.returns
 returns c =
-    let number = c in
-    let space = number.before.before.before in
-    let same = to_z-of_z w64 _ space.ranges.failures in
-    then space.put_byte-space_end.ensures (rw (number.above_zero.ensures, same) at c.put_hex.ensures)
+    let same = to_z-of_z w64 _ c.ranges.failures in
+    then c.put_byte-space_end.ensures (rw (c.above_zero.ensures, same) at c.put_hex.ensures)

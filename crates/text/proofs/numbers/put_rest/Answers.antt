@@ -41,16 +41,13 @@ all_put {numbers} {k = k} so_far all put = rw (← so_far.joined, drop_of_length
 
 pub loop-k-preserved : goal.loop-k-preserved
 loop-k-preserved c =
-    let turn = c in
-    let start = turn.before.before in
-    let same = as_is start.args.numbers start.well_formed.0.0 start.well_formed.0.1.1 turn.loop-k.k in
-    let more = one_more turn.loop-k.invariant.3 (omega arith) (omega (arith, start.well_formed.0.1.0.1)) (rw same at c.put_spaced-next.ensures) in
+    let same = as_is c.args.numbers c.well_formed.0.0 c.well_formed.0.1.1 c.loop-k.k in
+    let more = one_more c.loop-k.invariant.3 (omega arith) (omega (arith, c.well_formed.0.1.0.1)) (rw same at c.put_spaced-next.ensures) in
     (omega arith, omega arith, omega arith, more)
 
 pub returns : goal.returns
 returns c =
-    let loop = c in
-    within (all_put loop.loop-k.invariant.3 (omega (arith, loop.well_formed.0.1.0.1)) c.put_byte.ensures) (omega arith)
+    within (all_put c.loop-k.invariant.3 (omega (arith, c.well_formed.0.1.0.1)) c.put_byte.ensures) (omega arith)
 
 pub loop-k-init : goal.loop-k-init
 loop-k-init c = (omega arith, omega arith, refl, record { text = []; put = nothing; joined = refl })

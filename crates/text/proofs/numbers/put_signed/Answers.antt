@@ -19,9 +19,8 @@ pub put_decimal-requires : goal.put_decimal-requires
 put_decimal-requires c = omega (arith, (not_negative (goal.at.put_decimal-requires c).Then-z-ge0).small)
 
 pub returns-then-z-ge0 : goal.returns-then-z-ge0
-returns-then-z-ge0 c = (λ c.
-    let number = c in
-    rw (not_negative (goal.at.returns-then-z-ge0 c).Then-z-ge0).text (within (rw number.above_zero.ensures at c.put_decimal.ensures) (omega arith)))
+returns-then-z-ge0 c =
+    rw (not_negative (goal.at.returns-then-z-ge0 c).Then-z-ge0).text (within (rw c.above_zero.ensures at c.put_decimal.ensures) (omega arith))
 
 pub overflow_sub-z : goal.overflow_sub-z
 overflow_sub-z c = (negative (goal.at.overflow_sub-z c).Else-z-ge0).fits
@@ -33,8 +32,6 @@ pub put_decimal-requires-2 : goal.put_decimal-requires-2
 put_decimal-requires-2 c = omega (arith, (negative (goal.at.put_decimal-requires-2 c).Else-z-ge0).small)
 
 pub returns : goal.returns
-returns c = (λ c.
-    let number = c in
-    let sign = number.before.before.before in
+returns c =
     rw (negative (goal.at.returns c).Else-z-ge0).text
-    (then sign.put_byte-sign_end.ensures (rw number.above_zero-2.ensures at c.put_decimal-2.ensures)))
+    (then c.put_byte-sign_end.ensures (rw c.above_zero-2.ensures at c.put_decimal-2.ensures))

@@ -7,5 +7,4 @@ use Rattle.text.proofs.numbers.put_spaced.Goals as goal
 
 pub returns : goal.returns
 returns c =
-    let space = c in
-    then space.put_byte-space_end.ensures (rw (to_z-of_z w64 _ space.ranges.z) at c.put_signed.ensures)
+    then c.put_byte-space_end.ensures (rw (to_z-of_z w64 _ c.ranges.z) at c.put_signed.ensures)

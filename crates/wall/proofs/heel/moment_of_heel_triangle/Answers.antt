@@ -21,21 +21,17 @@ under_most c =
 
 pub returns-then-p-under : goal.returns-then-p-under
 returns-then-p-under c =
-    let read = c in
-    let start = read.before in
-    let s = start.requires.1 in
-    let is = read.twice_heel_arm.ensures in
+    let s = c.requires.1 in
+    let is = c.twice_heel_arm.ensures in
     c.rounded_down.ensures ∙ rw is (sym (heel_moment_all _ (thick (goal.at.returns-then-p-under c).Start) _ _ s.over_some s.under_some (rw (← is) (omega arith))))
 
 pub returns : goal.returns
 returns c =
-    let read = c in
-    let start = read.before in
-    let p = start.args.contact.over in
-    let q = start.args.contact.under in
-    let s = start.requires.1 in
-    let is = read.twice_heel_arm.ensures in
-    share_is (480 * p * p) p (cut_moment p q (read.twice_heel_arm.result * q) (omega arith)) (omega arith) c.share_down.ensures
+    let p = c.args.contact.over in
+    let q = c.args.contact.under in
+    let s = c.requires.1 in
+    let is = c.twice_heel_arm.ensures in
+    share_is (480 * p * p) p (cut_moment p q (c.twice_heel_arm.result * q) (omega arith)) (omega arith) c.share_down.ensures
     ∙ rw is (sym (heel_moment_cut _ (thick (goal.at.returns c).Start) p q s.over_some s.under_some (rw (← is) (omega arith))))
 
 pub overflow_mul-under : goal.overflow_mul-under

@@ -22,9 +22,8 @@ slab_most c =
 fill-at : (c : After-field-2) → let start = c.before.before.before.before in
     (start.args.fill * (c.field.result + c.field-2.result) ≤ 40000000 * longest)
 fill-at c =
-    let start = c.before.before.before.before in
-    let within = wall_within _ start.requires.0 in
-    let light : start.args.fill ≤ 40000000 = omega (arith, start.requires.1, fill_most within) in
+    let within = wall_within _ c.requires.0 in
+    let light : c.args.fill ≤ 40000000 = omega (arith, c.requires.1, fill_most within) in
     let short : c.field.result + c.field-2.result ≤ longest = omega (arith, heel_arm_most within, c.field.ensures, c.field-2.ensures) in
     mul-le-mul light short
 

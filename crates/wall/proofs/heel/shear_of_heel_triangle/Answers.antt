@@ -19,18 +19,15 @@ overflow_mul-under c = omega (arith, length_fits_lem c.requires.1 c.field.result
 
 pub returns-then-p-under : goal.returns-then-p-under
 returns-then-p-under c =
-    let start = c in
-    let s = start.requires.1 in
+    let s = c.requires.1 in
     c.rounded_down.ensures
     ∙ sym (heel_shear_all _ (thick (goal.at.returns-then-p-under c).Start) _ _ s.over_some s.under_some (rw (← c.field.ensures.0) (omega arith)))
 
 pub returns : goal.returns
 returns c =
-    let read = c in
-    let start = read.before in
-    let p = start.args.contact.over in
-    let q = start.args.contact.under in
-    let s = start.requires.1 in
-    let is = read.field.ensures.0 in
-    share_is (20 * p * p) q (cut_shear p q (read.field.result * q) (omega arith)) (omega arith) c.share_down.ensures
+    let p = c.args.contact.over in
+    let q = c.args.contact.under in
+    let s = c.requires.1 in
+    let is = c.field.ensures.0 in
+    share_is (20 * p * p) q (cut_shear p q (c.field.result * q) (omega arith)) (omega arith) c.share_down.ensures
     ∙ rw is (sym (heel_shear_cut _ (thick (goal.at.returns c).Start) p q s.over_some s.under_some (rw (← is) (omega arith))))

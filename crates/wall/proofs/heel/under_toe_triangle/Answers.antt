@@ -22,21 +22,17 @@ back c = omega (arith, c.base_length.ensures, c.field.ensures, base_length_lem (
 
 pub returns : goal.returns
 returns c =
-    let second = c in
-    let first = second.before.before in
-    let read = first.before in
-    let start = read.before.before in
-    let wall = start.args.wall in
-    let p = start.args.contact.over in
-    let q = start.args.contact.under in
-    let s = start.requires.1 in
-    let thick = (wall_within wall start.requires.0).stem_thickness in
-    let near : first.excess-past_back.result ≡ p - (toe_length wall + stem_thickness wall) * q = rw (back (goal.at.returns c).After-field).1 at first.excess-past_back.ensures in
-    let far : second.excess-past_middle.result ≡ 2 * p - twice_arm wall * q = rw second.twice_arm.ensures at second.excess-past_middle.ensures in
+    let wall = c.args.wall in
+    let p = c.args.contact.over in
+    let q = c.args.contact.under in
+    let s = c.requires.1 in
+    let thick = (wall_within wall c.requires.0).stem_thickness in
+    let near : c.excess-past_back.result ≡ p - (toe_length wall + stem_thickness wall) * q = rw (back (goal.at.returns c).After-field).1 at c.excess-past_back.ensures in
+    let far : c.excess-past_middle.result ≡ 2 * p - twice_arm wall * q = rw c.twice_arm.ensures at c.excess-past_middle.ensures in
     action_is
-    (share_is (20 * p * p) q (tip_shear p q first.excess-past_back.result (omega arith)) (omega arith) c.share_down.ensures
+    (share_is (20 * p * p) q (tip_shear p q c.excess-past_back.result (omega arith)) (omega arith) c.share_down.ensures
     ∙ rw near (sym (toe_shear wall (omega arith) p q s.over_some s.under_some)))
-    (share_is (480 * p * p) p (tip_moment p q second.excess-past_middle.result (omega arith)) (omega arith) c.share_down-2.ensures
+    (share_is (480 * p * p) p (tip_moment p q c.excess-past_middle.result (omega arith)) (omega arith) c.share_down-2.ensures
     ∙ rw far (sym (toe_moment wall (omega arith) p q s.over_some s.under_some)))
 
 pub overflow_sub-back : goal.overflow_sub-back

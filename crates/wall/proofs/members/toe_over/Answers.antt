@@ -15,9 +15,8 @@ returns-then-not-is_given c = c.no_member-then-not-is_given.ensures ∙ sym (no-
 
 pub returns : goal.returns
 returns c =
-    let judged = c in
     rw (c.toe_section.ensures, c.toe_action.ensures) at c.member_of.ensures
-    ∙ sym (toe-worked _ _ (omega (arith, judged.field.ensures)) (sym judged.is_given.ensures ∙ not-false _ judged.if-not-is_given.false-raw))
+    ∙ sym (toe-worked _ _ (omega (arith, c.field.ensures)) (sym c.is_given.ensures ∙ not-false _ c.if-not-is_given.false-raw))
 
 pub member_of-requires : goal.member_of-requires
 member_of-requires c = rw c.toe_section.ensures (toe_workable _ c.requires.0)

@@ -38,7 +38,6 @@ begun_moment-requires c = let d = c in (stands d, (short (goal.at.begun_moment-r
 
 pub returns : goal.returns
 returns c =
-    let d = c in
-    begun_action d.args.wall d.args.pressed.heel _ _ d.field-lt.ensures.0 d.twice_arm-arm.ensures (length (goal.at.returns c).After-twice_arm-arm)
+    begun_action c.args.wall c.args.pressed.heel _ _ c.field-lt.ensures.0 c.twice_arm-arm.ensures (length (goal.at.returns c).After-twice_arm-arm)
     c.begun_shear.ensures c.begun_moment.ensures
-    ∙ sym (begun d.requires.1 d.parts_of-contact.ensures.0 d.parts_of-contact.ensures.1 d.requires.2)
+    ∙ sym (begun c.requires.1 c.parts_of-contact.ensures.0 c.parts_of-contact.ensures.1 c.requires.2)

@@ -31,20 +31,18 @@ ended_moment-requires c = let test = c in (stands test, (short (goal.at.ended_mo
 
 pub returns-then-contact-arm : goal.returns-then-contact-arm
 returns-then-contact-arm c =
-    let test = c in
-    let arm = test.twice_arm-arm.ensures in
-    ended_action test.args.wall test.args.pressed.toe _ _ test.field-lt.ensures.0 arm c.ended_shear.ensures
+    let arm = c.twice_arm-arm.ensures in
+    ended_action c.args.wall c.args.pressed.toe _ _ c.field-lt.ensures.0 arm c.ended_shear.ensures
     c.ended_moment.ensures
-    ∙ sym (ended test.requires.1 test.parts_of-contact.ensures.0 test.parts_of-contact.ensures.1 test.requires.2 (rw (← arm) (omega arith)))
+    ∙ sym (ended c.requires.1 c.parts_of-contact.ensures.0 c.parts_of-contact.ensures.1 c.requires.2 (rw (← arm) (omega arith)))
 
 pub straight-requires : goal.straight-requires
 straight-requires c =
-    let test = c in
     let most = (stands (goal.at.straight-requires c).After-struct_known-2-1).peak_most in (
-      test.requires.0,
+      c.requires.0,
       most,
-      omega (arith, c.scaled_peak.ensures, scaled_within test.args.pressed.toe (2 * test.field-lt.result) test.parts_of-contact.result.over test.parts_of-contact.result.under),
-      omega (arith, c.scaled_peak-2.ensures, scaled_within test.args.pressed.toe test.twice_arm-arm.result test.parts_of-contact.result.over test.parts_of-contact.result.under),
+      omega (arith, c.scaled_peak.ensures, scaled_within c.args.pressed.toe (2 * c.field-lt.result) c.parts_of-contact.result.over c.parts_of-contact.result.under),
+      omega (arith, c.scaled_peak-2.ensures, scaled_within c.args.pressed.toe c.twice_arm-arm.result c.parts_of-contact.result.over c.parts_of-contact.result.under),
     )
 
 pub returns : goal.returns

@@ -33,9 +33,8 @@ law : (c : After-excess-past) → let a = c.args in let e = reached c in
     in_newtons (begun_shear (plain a.peak) (fraction a.over a.under) (begins a.l a.over a.under) (plain a.lt))
     ≡ rounded_up (a.peak * e * e) (2 * per_pressure * a.under * a.over)
 law c =
-    let start = c.before in
-    let s = start.requires.0 in
-    rw (same c) (before_shear start.args.peak _ _ s.contact.over_some s.contact.under_some start.args.l start.args.lt 1 (omega arith) start.requires.3 (omega arith))
+    let s = c.requires.0 in
+    rw (same c) (before_shear c.args.peak _ _ s.contact.over_some s.contact.under_some c.args.l c.args.lt 1 (omega arith) c.requires.3 (omega arith))
 
 pub returns-then-past-eq0 : goal.returns-then-past-eq0
 returns-then-past-eq0 c =
@@ -49,12 +48,10 @@ overflow_mul-peak c = omega (arith, over_parts c.requires.0 (reached (goal.at.ov
 
 pub returns : goal.returns
 returns c =
-    let below = c in
-    let above = below.before.before in
-    let excess = above.before.before.before in
+    let excess = c.before.before.before in
     let s = excess.requires.0 in
     let few : reached excess < 2 ^ 41 = omega (arith, short excess) in
-    let peak = first 62 above.of.ensures (over_parts s (reached (goal.at.returns c).After-excess-past) (short (goal.at.returns c).After-excess-past).2) in
-    let part = exactly 41 peak few (lit≤ tt) above.times-above.ensures in
-    let under = exactly 41 (first 39 below.of-2.ensures (omega arith)) (omega arith) (lit≤ tt) below.times-below.ensures in
+    let peak = first 62 c.of.ensures (over_parts s (reached (goal.at.returns c).After-excess-past) (short (goal.at.returns c).After-excess-past).2) in
+    let part = exactly 41 peak few (lit≤ tt) c.times-above.ensures in
+    let under = exactly 41 (first 39 c.of-2.ensures (omega arith)) (omega arith) (lit≤ tt) c.times-below.ensures in
     up_exact part under (heel_shear_fits s (omega (arith, short excess)) (short (goal.at.returns c).After-excess-past).1) c.quotient_up.ensures ∙ sym (law (goal.at.returns c).After-excess-past)

@@ -16,12 +16,9 @@ overflow_mul-arm-2 c = omega (arith, length_fits_lem c.requires.0.contact c.args
 
 pub returns : goal.returns
 returns c =
-    let below = c in
-    let above = below.before.before in
-    let start = above.before.before in
-    let s = start.requires.0 in
-    let peak = first 62 above.of.ensures (over_parts s start.args.over (omega arith)) in
-    let arm = exactly 43 peak (omega (arith, length_fits_lem s.contact start.args.arm start.requires.1)) (lit≤ tt) above.times-above.ensures in
-    let under = exactly 28 (first 41 below.of-2.ensures (omega arith)) (omega arith) (lit≤ tt) below.times-below.ensures in
-    up_exact arm under (toe_moment_fits s start.args.arm start.requires.1 start.requires.2) c.quotient_up.ensures
-    ∙ sym (about_middle _ _ _ s.contact.over_some s.contact.under_some start.args.arm start.requires.2)
+    let s = c.requires.0 in
+    let peak = first 62 c.of.ensures (over_parts s c.args.over (omega arith)) in
+    let arm = exactly 43 peak (omega (arith, length_fits_lem s.contact c.args.arm c.requires.1)) (lit≤ tt) c.times-above.ensures in
+    let under = exactly 28 (first 41 c.of-2.ensures (omega arith)) (omega arith) (lit≤ tt) c.times-below.ensures in
+    up_exact arm under (toe_moment_fits s c.args.arm c.requires.1 c.requires.2) c.quotient_up.ensures
+    ∙ sym (about_middle _ _ _ s.contact.over_some s.contact.under_some c.args.arm c.requires.2)

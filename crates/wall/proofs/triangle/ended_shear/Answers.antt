@@ -16,20 +16,17 @@ overflow_mul-peak c = omega (arith, over_length c.requires.0 c.args.lt c.require
 
 pub returns-then-face-over : goal.returns-then-face-over
 returns-then-face-over c =
-    let above = c in
-    let start = above.before.before.before in
-    let s = start.requires.0 in
-    let lt = first 35 above.of.ensures (over_length s start.args.lt start.requires.1) in
-    let part = exactly 42 lt (omega arith) (lit≤ tt) above.times-above.ensures in
+    let s = c.requires.0 in
+    let lt = first 35 c.of.ensures (over_length s c.args.lt c.requires.1) in
+    let part = exactly 42 lt (omega arith) (lit≤ tt) c.times-above.ensures in
     let over = first 52 c.of-then-face-over.ensures (omega arith) in
-    up_exact part over (toe_shear_fits s start.args.lt start.requires.1) c.quotient_up.ensures
-    ∙ sym (over_toe _ _ _ s.contact.over_some s.contact.under_some start.args.lt (omega arith))
+    up_exact part over (toe_shear_fits s c.args.lt c.requires.1) c.quotient_up.ensures
+    ∙ sym (over_toe _ _ _ s.contact.over_some s.contact.under_some c.args.lt (omega arith))
 
 pub overflow_mul-peak-2 : goal.overflow_mul-peak-2
 overflow_mul-peak-2 c = omega (arith, over_parts c.requires.0 c.args.over (omega arith))
 
 pub returns : goal.returns
 returns c =
-    let start = c in
-    let s = start.requires.0 in
-    c.rounded_up.ensures ∙ sym (all _ _ _ s.contact.over_some s.contact.under_some start.args.lt (omega arith))
+    let s = c.requires.0 in
+    c.rounded_up.ensures ∙ sym (all _ _ _ s.contact.over_some s.contact.under_some c.args.lt (omega arith))

@@ -41,11 +41,10 @@ returns-then-value-gt-GREATEST c =
 pub returns : goal.returns
 unfolding asked_for is_number
 returns c =
-    let start = c in
     let end = c.loop-i in
     let past = c.loop-i-test.false in
-    let least = le-leb _ _ start.if-count-lt1.false in
-    let most = le-leb _ _ start.if-count-gt-MOST_DIGITS.false in
+    let least = le-leb _ _ c.if-count-lt1.false in
+    let most = le-leb _ _ c.if-count-gt-MOST_DIGITS.false in
     let digits = all_digits end.invariant past in
     let made = all_made end.invariant past in
     let fits = lt-ltb end.value (2 ^ 32) (omega arith) in

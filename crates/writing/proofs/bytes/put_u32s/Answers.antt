@@ -11,9 +11,7 @@ put_u32-requires c = let turn = c in next_room turn.loop-k.invariant turn.loop-k
 
 pub loop-k-preserved : goal.loop-k-preserved
 loop-k-preserved c =
-    let put = c in
-    let turn = put.before.before.before in
-    next_number turn.loop-k.invariant turn.loop-k-test.true put.put_u32.ensures
+    next_number c.loop-k.invariant c.loop-k-test.true c.put_u32.ensures
 
 pub returns : goal.returns
 unfolding u32s_bytes

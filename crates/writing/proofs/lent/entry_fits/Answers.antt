@@ -22,16 +22,15 @@ returns-then-wall_count-number c = rw (in_length, ← c.wall_count.ensures, le-l
 pub returns : goal.returns
 unfolding entry_fits
 returns c =
-    let tests = c in
-    let start = tests.args in
+    let start = c.args in
     let number = get_or start.t2 0 0 in
     let walls = start.walls.now in
     let there : number - 1 < record_count wall_fields walls = omega arith in
     rw (
       in_length,
-      ← tests.wall_count.ensures,
-      le-leb _ _ tests.if-number-lt1.false,
-      le-leb _ _ tests.if-wall_count-number.false,
+      ← c.wall_count.ensures,
+      le-leb _ _ c.if-number-lt1.false,
+      le-leb _ _ c.if-wall_count-number.false,
       in_at wall_fields walls (number - 1) there,
       ← by_lengths (record_in wall_fields walls (number - 1)),
       ← c.lengths_in-lengths.ensures,

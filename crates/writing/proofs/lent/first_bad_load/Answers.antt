@@ -34,8 +34,7 @@ met c =
 
 pub returns-then-not-is_worked : goal.returns-then-not-is_worked
 returns-then-not-is_worked c =
-    let its = c in
-    refused its.loop-i.invariant.0 its.loop-i-test.true (its_answer (met (goal.at.returns-then-not-is_worked c).After-load_answer-answer)) c.is_worked.ensures c.if-not-is_worked.true-raw
+    refused c.loop-i.invariant.0 c.loop-i-test.true (its_answer (met (goal.at.returns-then-not-is_worked c).After-load_answer-answer)) c.is_worked.ensures c.if-not-is_worked.true-raw
 
 -- a load that is passed has room on a wall that is counted
 room : (c : Else-not-is_worked) → let counted = c.before.before.before.before in
@@ -44,10 +43,9 @@ room c = has_room (met c.before.before) c.is_worked.ensures c.if-not-is_worked.f
 
 pub loop-i-preserved : goal.loop-i-preserved
 loop-i-preserved c =
-    let its = c in
     let answered = met (goal.at.loop-i-preserved c).After-load_answer-answer in
     let told = c.is_worked.ensures in
-    (one_passed its.loop-i.invariant.0 its.loop-i-test.true (its_answer answered) told c.if-not-is_worked.false-raw, one_counted answered told c.if-not-is_worked.false-raw)
+    (one_passed c.loop-i.invariant.0 c.loop-i-test.true (its_answer answered) told c.if-not-is_worked.false-raw, one_counted answered told c.if-not-is_worked.false-raw)
 
 pub returns : goal.returns
 returns c = all_passed c.loop-i.invariant.0 c.loop-i-test.false

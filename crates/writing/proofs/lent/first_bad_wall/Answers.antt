@@ -13,17 +13,13 @@ loop-i-init c = rw c.wall_count-i-end.ensures (no_wall_passed _ _)
 
 pub returns-then-not-is_worked : goal.returns-then-not-is_worked
 returns-then-not-is_worked c =
-    let answered = c in
-    let looked = answered.before in
-    let is = rw looked.wall_in.ensures at answered.wall_answer-answer.ensures in
-    refused looked.loop-i.invariant looked.loop-i-test.true is c.is_worked.ensures c.if-not-is_worked.true-raw
+    let is = rw c.wall_in.ensures at c.wall_answer-answer.ensures in
+    refused c.loop-i.invariant c.loop-i-test.true is c.is_worked.ensures c.if-not-is_worked.true-raw
 
 pub loop-i-preserved : goal.loop-i-preserved
 loop-i-preserved c =
-    let answered = c in
-    let looked = answered.before in
-    let is = rw looked.wall_in.ensures at answered.wall_answer-answer.ensures in
-    one_passed looked.loop-i.invariant looked.loop-i-test.true is c.is_worked.ensures c.if-not-is_worked.false-raw
+    let is = rw c.wall_in.ensures at c.wall_answer-answer.ensures in
+    one_passed c.loop-i.invariant c.loop-i-test.true is c.is_worked.ensures c.if-not-is_worked.false-raw
 
 pub returns : goal.returns
 returns c = all_passed c.loop-i.invariant c.loop-i-test.false

@@ -31,7 +31,6 @@ five from h =
 pub returns : goal.returns
 unfolding record_in
 returns c =
-    let start = c in
-    let at = wall_fields * start.args.i in
-    let walls = start.args.walls.now in
-    rw (c.copy_from.ensures, ← drop-drop 1 at walls) (five (drop at walls) (omega (arith, start.requires, length-drop at walls)))
+    let at = wall_fields * c.args.i in
+    let walls = c.args.walls.now in
+    rw (c.copy_from.ensures, ← drop-drop 1 at walls) (five (drop at walls) (omega (arith, c.requires, length-drop at walls)))

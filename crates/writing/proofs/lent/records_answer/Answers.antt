@@ -32,13 +32,11 @@ past_counts c = rw (fit c)
 
 pub returns-then-not-is_worked : goal.returns-then-not-is_worked
 returns-then-not-is_worked c =
-    let d = c in
-    stops _ (past_counts (goal.at.returns-then-not-is_worked c).Else-not-records_fit) d.first_bad_wall-bad_wall.ensures c.is_worked.ensures c.if-not-is_worked.true-raw
+    stops _ (past_counts (goal.at.returns-then-not-is_worked c).Else-not-records_fit) c.first_bad_wall-bad_wall.ensures c.is_worked.ensures c.if-not-is_worked.true-raw
 
 pub returns : goal.returns
 returns c =
-    let d = c in
-    let past-walls = goes_on _ (past_counts (goal.at.returns c).Else-not-records_fit) d.first_bad_wall-bad_wall.ensures c.is_worked.ensures c.if-not-is_worked.false-raw in
+    let past-walls = goes_on _ (past_counts (goal.at.returns c).Else-not-records_fit) c.first_bad_wall-bad_wall.ensures c.is_worked.ensures c.if-not-is_worked.false-raw in
     c.first_bad_load.ensures ∙ sym past-walls
 
 pub first_bad_wall-bad_wall-requires : goal.first_bad_wall-bad_wall-requires
