@@ -6,8 +6,8 @@ use Rattle.keyed.proofs.angle_in.Goals as goal
 
 pub returns-in-NoDigits : goal.returns-in-NoDigits
 unfolding angle_in
-returns-in-NoDigits c = rw c.enum_told.given.1
+returns-in-NoDigits c = rw c.in-NoDigits.is
 
 pub returns-in-Value : goal.returns-in-Value
 unfolding angle_in
-returns-in-Value c = rw (c.tenths.given.1, c.lesser.ensures)
+returns-in-Value c = rw (c.in-Value.is, c.lesser.ensures)

@@ -12,11 +12,11 @@ returns-then-word-gt-MOST_DIGITS c = rw (lt-leb _ _ c.if-word-gt-MOST_DIGITS.tru
 
 pub returns-then-value-ge-BEYOND : goal.returns-then-value-ge-BEYOND
 returns-then-value-ge-BEYOND c =
-    sym (number_beyond _ (sym c.digits_behind-digits.ensures ∙ c.digits.given.1) c.if-value-ge-BEYOND.true)
+    sym (number_beyond _ (sym c.digits_behind-digits.ensures ∙ c.in-Value.is) c.if-value-ge-BEYOND.true)
 
 pub returns-in-NoDigits : goal.returns-in-NoDigits
-returns-in-NoDigits c = sym (number_none _ (sym c.digits_behind-digits.ensures ∙ c.enum_told.given.1))
+returns-in-NoDigits c = sym (number_none _ (sym c.digits_behind-digits.ensures ∙ c.in-NoDigits.is))
 
 pub returns-else-value-ge-BEYOND : goal.returns-else-value-ge-BEYOND
 returns-else-value-ge-BEYOND c =
-    sym (number_read _ c.if-word-gt-MOST_DIGITS.false (sym c.digits_behind-digits.ensures ∙ c.digits.given.1) c.if-value-ge-BEYOND.false)
+    sym (number_read _ c.if-word-gt-MOST_DIGITS.false (sym c.digits_behind-digits.ensures ∙ c.in-Value.is) c.if-value-ge-BEYOND.false)

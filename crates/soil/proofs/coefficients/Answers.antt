@@ -23,4 +23,4 @@ sine_at-sine-requires c = let h = soil_from c.args.angle (soil (goal.at.sine_at-
 pub returns : goal.returns
 unfolding coefficients_of
 returns c =
-    rw (c.active_by-active.ensures, c.rest_by-rest.ensures, c.sine_at-sine.ensures.0, soil c.before)
+    rw (c.active_by-active.ensures, c.rest_by-rest.ensures, c.sine_at-sine.ensures.0, soil (goal.at.returns c).Else-not-is_soil)

@@ -6,16 +6,16 @@ use Rattle.text.proofs.figures.put_shape_figures.Goals as goal
 
 pub returns-in-Whole : goal.returns-in-Whole
 unfolding shape_figures figures_text
-returns-in-Whole c = rw c.shape.given.1 c.put_pair.ensures
+returns-in-Whole c = rw c.in-Whole.is c.put_pair.ensures
 
 pub returns-in-ToeTriangle : goal.returns-in-ToeTriangle
 unfolding shape_figures figures_text
-returns-in-ToeTriangle c = rw c.shape-in-ToeTriangle-1.given.1 c.put_pair-in-ToeTriangle.ensures
+returns-in-ToeTriangle c = rw c.in-ToeTriangle.is c.put_pair-in-ToeTriangle.ensures
 
 pub returns-in-HeelTriangle : goal.returns-in-HeelTriangle
 unfolding shape_figures figures_text
-returns-in-HeelTriangle c = rw c.shape-in-HeelTriangle-1.given.1 c.put_pair-in-HeelTriangle.ensures
+returns-in-HeelTriangle c = rw c.in-HeelTriangle.is c.put_pair-in-HeelTriangle.ensures
 
 pub returns-in-Nothing : goal.returns-in-Nothing
 unfolding shape_figures figures_text
-returns-in-Nothing c = rw c.enum_told.given.1 nothing
+returns-in-Nothing c = rw c.in-Nothing.is nothing

@@ -14,13 +14,8 @@ use Rattle.rules.specs.Beyond.{number_room}
 use Rattle.text.specs.Placed.{PutAt, spaced_number}
 use Rattle.text.proofs.Owned.{as_is}
 use Rattle.text.proofs.Placing.{nothing, then, within}
+use Rattle.text.proofs.numbers.put_rest.Invariants.{Passed}
 use Rattle.text.proofs.numbers.put_rest.Goals as goal
-
--- the numbers before an index are put
-record Passed (numbers : List ℤ) (at k : ℕ) (before : List ℕ) (next : ℕ) (after : List ℕ) : Type 0 where
-  pub text : List ℕ
-  pub put : PutAt at (number_room * (k - 2)) text before next after
-  pub joined : text ++ line_rest (drop k numbers) ≡ line_rest (drop 2 numbers)
 
 -- what is left begins with the next number
 one_more : {numbers : List ℤ} {at k next end : ℕ} {before after last : List ℕ} → Passed numbers at k before next after → 2 ≤ k → k < length numbers
