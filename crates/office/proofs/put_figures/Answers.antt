@@ -26,14 +26,14 @@ kept : (c : After-put_pair) → length (after c) ≡ length c.args.out.now
 kept c = put_length (put c) (omega (arith, c.requires))
 
 pub slice_bounds-put_shape-count : goal.slice_bounds-put_shape-count
-slice_bounds-put_shape-count c = let two = c in omega (arith, two.requires, kept two)
+slice_bounds-put_shape-count c = let two = (goal.at.slice_bounds-put_shape-count c).After-put_pair in omega (arith, two.requires, kept two)
 
 pub put_shape-requires : goal.put_shape-requires
-put_shape-requires c = let two = c in omega (arith, two.requires, kept two)
+put_shape-requires c = let two = (goal.at.put_shape-requires c).After-put_pair in omega (arith, two.requires, kept two)
 
 pub shape_of-out : goal.shape_of-out
 shape_of-out c =
-    let d = c in
+    let d = (goal.at.shape_of-out c).After-put_pair in
     let buffer = after d in
     same_len_mid 3 (length buffer - 3) buffer d.put_shape.new.1.0 d.put_shape.auto.1.0 ∙ kept d
 

@@ -26,7 +26,7 @@ room c = c.if-out-lt-FILE_ROOM.false
 
 pub returns-then-not-is_worked : goal.returns-then-not-is_worked
 returns-then-not-is_worked c =
-    let taken = c.before.before.before.before in
+    let taken = (goal.at.returns-then-not-is_worked c).After-take_apart-taken in
     let refused : T (not (is_worked taken.take_apart-taken.result.answer)) = rw (sym c.is_worked.ensures ∙ not-true _ c.if-not-is_worked.true-raw) tt in
     put_fitting file_room _ (room (goal.at.returns-then-not-is_worked c).After-take_apart-taken)
     (rw (← refusal_printed taken.take_apart-taken.ensures (omega arith) (omega arith) refused)
@@ -34,7 +34,7 @@ returns-then-not-is_worked c =
 
 pub returns : goal.returns
 returns c =
-    let taken = c.before.before.before.before in
+    let taken = (goal.at.returns c).After-take_apart-taken in
     let apart = taken.take_apart-taken.ensures in
     let worked : T (is_worked taken.take_apart-taken.result.answer) = rw (sym c.is_worked.ensures ∙ not-false _ c.if-not-is_worked.false-raw) tt in
     let small = rewritten_small _ (records_taken apart worked).0 in

@@ -42,5 +42,5 @@ numbers_of-requires c =
 
 pub returns : goal.returns
 returns c =
-    rw (c.Numbers-of.ensures, numbers (goal.at.returns c).After-worked, c.blocks-borne.ensures)
+    rw (c.numbers_of.ensures, numbers (goal.at.returns c).After-worked, c.blocks-borne.ensures)
     (line-worked _ _ (accepted (goal.at.returns c).Else-not-is_worked) _)

@@ -28,8 +28,7 @@ small c = omega (arith, c.requires)
 pub returns : goal.returns
 unfolding numbers_by
 returns c =
-    let first = called c in
-    rw first.failures_of-failures.ensures (read_back _ first.pre)
+    rw c.failures_of-failures.ensures (read_back _ c.requires)
 
 pub overflow_cast-result-3 : goal.overflow_cast-result-3
 overflow_cast-result-3 c = omega (arith, small (goal.at.overflow_cast-result-3 c).After-failures_of-failures)
@@ -68,7 +67,7 @@ pub overflow_cast-result-14 : goal.overflow_cast-result-14
 overflow_cast-result-14 c = omega (arith, small (goal.at.overflow_cast-result-14 c).After-failures_of-failures)
 
 pub overflow_cast-result-15 : goal.overflow_cast-result-15
-overflow_cast-result-15 c = omega (arith, small (called c))
+overflow_cast-result-15 c = omega (arith, small (goal.at.overflow_cast-result-15 c).After-failures_of-failures)
 
 pub overflow_cast-result-16 : goal.overflow_cast-result-16
-overflow_cast-result-16 c = omega (arith, small (called c))
+overflow_cast-result-16 c = omega (arith, small (goal.at.overflow_cast-result-16 c).After-failures_of-failures)

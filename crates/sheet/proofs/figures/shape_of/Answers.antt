@@ -27,19 +27,19 @@ under c = back _ (omega (arith, c.requires.0.under))
 
 pub returns-in-Full : goal.returns-in-Full
 unfolding shape_of shape_by
-returns-in-Full c = let s = c in rw c.enum_told.given.1 (cc (toe s, heel s))
+returns-in-Full c = let s = (goal.at.returns-in-Full c).Start in rw c.enum_told.given.1 (cc (toe s, heel s))
 
 pub returns-in-FromToe : goal.returns-in-FromToe
 unfolding shape_of shape_by
-returns-in-FromToe c = let s = c in rw c.enum_told-in-FromToe-1.given.1 (cc (toe s, over s, under s))
+returns-in-FromToe c = let s = (goal.at.returns-in-FromToe c).Start in rw c.in-FromToe.is (cc (toe s, over s, under s))
 
 pub returns-in-FromHeel : goal.returns-in-FromHeel
 unfolding shape_of shape_by
-returns-in-FromHeel c = let s = c in rw c.enum_told-in-FromHeel-1.given.1 (cc (heel s, over s, under s))
+returns-in-FromHeel c = let s = (goal.at.returns-in-FromHeel c).Start in rw c.in-FromHeel.is (cc (heel s, over s, under s))
 
 pub returns-in-NoBlock : goal.returns-in-NoBlock
 unfolding shape_of shape_by
-returns-in-NoBlock c = rw c.enum_told-in-NoBlock-1.given.1
+returns-in-NoBlock c = rw c.in-NoBlock.is
 
 pub overflow_cast-pressed : goal.overflow_cast-pressed
 overflow_cast-pressed c = let start = c in omega (arith, reports service_scale start.requires.1)

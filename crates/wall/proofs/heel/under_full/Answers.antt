@@ -21,7 +21,7 @@ on_base c = omega (arith, lengths c)
 
 pub returns : goal.returns
 returns c =
-    let d = c in
+    let d = (goal.at.returns c).After-twice_heel_arm-arm in
     let is = lengths d in
     full_action _ (omega (arith, wall_within _ d.requires.0)) _ _ is.0 is.1 is.2 c.full_shear.ensures c.full_moment.ensures
 

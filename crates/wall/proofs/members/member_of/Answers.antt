@@ -17,9 +17,9 @@ judged c = c.judged.ensures ∙ rw (is_true (is_workable c.args.section) c.requi
 pub returns-in-Unworkable : goal.returns-in-Unworkable
 returns-in-Unworkable c =
     let one = judged (goal.at.returns-in-Unworkable c).After-judged in
-    let other = c.enum_told.given.1 in
+    let other = c.in-Unworkable.is in
     let never : ◌≡◌ {A = ℕ} 0 1 = cc in
     absurd (omega arith)
 
 pub returns-in-Judged : goal.returns-in-Judged
-returns-in-Judged c = cc (judged (goal.at.returns-in-Judged c).After-judged, c.member.given.1)
+returns-in-Judged c = cc (judged (goal.at.returns-in-Judged c).After-judged, c.in-Judged.is)

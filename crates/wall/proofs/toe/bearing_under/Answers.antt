@@ -14,23 +14,23 @@ unfolding toe_bearing
 told c h e = e ∙ ap (λ k. bearing_by k c.args.wall c.args.pressed.block) (sym h)
 
 pub returns-in-Full : goal.returns-in-Full
-returns-in-Full c = told (goal.at.returns-in-Full c).Start c.enum_told.given.1 c.over_full.ensures
+returns-in-Full c = told (goal.at.returns-in-Full c).Start c.in-Full.is c.over_full.ensures
 
 pub returns-in-FromToe : goal.returns-in-FromToe
-returns-in-FromToe c = told (goal.at.returns-in-FromToe c).Start c.enum_told-in-FromToe-1.given.1 c.over_toe_triangle.ensures
+returns-in-FromToe c = told (goal.at.returns-in-FromToe c).Start c.in-FromToe.is c.over_toe_triangle.ensures
 
 pub returns-in-FromHeel : goal.returns-in-FromHeel
-returns-in-FromHeel c = told (goal.at.returns-in-FromHeel c).Start c.enum_told-in-FromHeel-1.given.1 c.over_heel_triangle.ensures
+returns-in-FromHeel c = told (goal.at.returns-in-FromHeel c).Start c.in-FromHeel.is c.over_heel_triangle.ensures
 
 pub returns-in-NoBlock : goal.returns-in-NoBlock
 unfolding bearing_by
-returns-in-NoBlock c = told (goal.at.returns-in-NoBlock c).Start c.enum_told-in-NoBlock-1.given.1 refl
+returns-in-NoBlock c = told (goal.at.returns-in-NoBlock c).Start c.in-NoBlock.is refl
 
 pub over_full-requires : goal.over_full-requires
-over_full-requires c = (c.requires.0, c.requires.1, c.enum_told.given.1)
+over_full-requires c = (c.requires.0, c.requires.1, c.in-Full.is)
 
 pub over_toe_triangle-requires : goal.over_toe_triangle-requires
-over_toe_triangle-requires c = (c.requires.0, c.requires.1, c.enum_told-in-FromToe-1.given.1)
+over_toe_triangle-requires c = (c.requires.0, c.requires.1, c.in-FromToe.is)
 
 pub over_heel_triangle-requires : goal.over_heel_triangle-requires
-over_heel_triangle-requires c = (c.requires.0, c.requires.1, c.enum_told-in-FromHeel-1.given.1)
+over_heel_triangle-requires c = (c.requires.0, c.requires.1, c.in-FromHeel.is)

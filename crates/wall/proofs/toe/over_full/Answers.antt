@@ -33,7 +33,7 @@ on_line-at_face-requires c =
 
 pub on_line-at_middle-requires : goal.on_line-at_middle-requires
 on_line-at_middle-requires c =
-    let ends = c in
+    let ends = (goal.at.on_line-at_middle-requires c).After-parts_of-heel in
     line_fits (pressable (goal.at.on_line-at_middle-requires c).After-parts_of-heel) ends.parts_of-toe.ensures.0 ends.parts_of-heel.ensures.0 ends.parts_of-toe.ensures.1 ends.requires.2 _
     (omega (arith, on_base ends, c.twice_arm.ensures))
 
@@ -52,7 +52,7 @@ bounded c twice e h = omega (arith, line_most c.requires.1.pressable c.requires.
 
 pub straight-requires : goal.straight-requires
 straight-requires c =
-    let ends = c in (
+    let ends = (goal.at.straight-requires c).After-parts_of-heel in (
       ends.requires.0,
       rw (reports factored_scale ends.requires.1.reports).0 (reported_most ends.requires.1.pressable).0,
       bounded ends _ (worked ends _ c.on_line-at_face.ensures) (on_base (goal.at.straight-requires c).After-parts_of-heel).0,
@@ -62,7 +62,7 @@ straight-requires c =
 pub returns : goal.returns
 unfolding bearing_by
 returns c =
-    let ends = c in
+    let ends = (goal.at.returns c).After-parts_of-heel in
     let bears = ends.requires.1 in
     straight_action ends.args.wall (on_line ends.args.pressed.block (base_length ends.args.wall)) ends.field-lt.ensures.0
     c.twice_arm.ensures

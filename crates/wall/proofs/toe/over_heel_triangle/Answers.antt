@@ -34,7 +34,7 @@ pub begun_shear-requires : goal.begun_shear-requires
 begun_shear-requires c = (stands (goal.at.begun_shear-requires c).After-twice_arm-arm, (short (goal.at.begun_shear-requires c).After-twice_arm-arm).0, (short (goal.at.begun_shear-requires c).After-twice_arm-arm).1, within_base (goal.at.begun_shear-requires c).After-twice_arm-arm)
 
 pub begun_moment-requires : goal.begun_moment-requires
-begun_moment-requires c = let d = c in (stands d, (short (goal.at.begun_moment-requires c).After-twice_arm-arm).0, (short (goal.at.begun_moment-requires c).After-twice_arm-arm).2, (short (goal.at.begun_moment-requires c).After-twice_arm-arm).3, within_base d)
+begun_moment-requires c = let d = (goal.at.begun_moment-requires c).After-twice_arm-arm in (stands d, (short (goal.at.begun_moment-requires c).After-twice_arm-arm).0, (short (goal.at.begun_moment-requires c).After-twice_arm-arm).2, (short (goal.at.begun_moment-requires c).After-twice_arm-arm).3, within_base d)
 
 pub returns : goal.returns
 returns c =

@@ -27,7 +27,7 @@ pub overflow_mul-arm : goal.overflow_mul-arm
 overflow_mul-arm c = omega (arith, length_fits_lem (stands (goal.at.overflow_mul-arm c).After-struct_known-2-1).contact c.twice_arm-arm.result (short (goal.at.overflow_mul-arm c).After-struct_known-2-1).1)
 
 pub ended_moment-requires : goal.ended_moment-requires
-ended_moment-requires c = let test = c in (stands test, (short (goal.at.ended_moment-requires c).After-struct_known-2-1).1, omega arith)
+ended_moment-requires c = let test = (goal.at.ended_moment-requires c).After-struct_known-2-1 in (stands test, (short (goal.at.ended_moment-requires c).After-struct_known-2-1).1, omega arith)
 
 pub returns-then-contact-arm : goal.returns-then-contact-arm
 returns-then-contact-arm c =
@@ -47,7 +47,7 @@ straight-requires c =
 
 pub returns : goal.returns
 returns c =
-    let test = c in
+    let test = (goal.at.returns c).After-struct_known-2-1 in
     let arm = test.twice_arm-arm.ensures in
     let s = stands test in
     let peak = test.args.pressed.toe in

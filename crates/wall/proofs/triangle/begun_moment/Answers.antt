@@ -50,7 +50,7 @@ overflow_mul-peak c = omega (arith, over_parts c.requires.0 (reached (goal.at.ov
 
 pub returns : goal.returns
 returns c =
-    let excess = c.before.before.before.before in
+    let excess = (goal.at.returns c).After-excess-past in
     let s = excess.requires.0 in
     let few : reached excess < 2 ^ 41 = omega (arith, short excess) in
     let peak = first 62 c.of.ensures (over_parts s (reached (goal.at.returns c).After-excess-past) (short (goal.at.returns c).After-excess-past).2) in

@@ -23,7 +23,7 @@ pub returns : goal.returns
 unfolding entry_fits
 returns c =
     let start = c.args in
-    let number = get_or start.t2 0 0 in
+    let number = get_or start.entry 0 0 in
     let walls = start.walls.now in
     let there : number - 1 < record_count wall_fields walls = omega arith in
     rw (

@@ -9,7 +9,7 @@ use Rattle.rules.specs.WrittenFile.{record_in, records_in}
 use Rattle.job.proofs.Judging.{Passed, all_passed, refused, one_passed, load_answer_at, no_load_passed}
 use Rattle.job.proofs.Counting.{Counted, none_counted, Met, its_answer, has_room, one_counted}
 use Rattle.writing.proofs.LentRecords.{in_length}
-use Rattle.writing.proofs.lent.first_bad_load.Goals.{After-load_answer-answer, Else-not-is_worked}
+use Rattle.writing.proofs.lent.first_bad_load.Goals.{After-load_answer-answer}
 use Rattle.writing.proofs.lent.first_bad_load.Goals as goal
 
 pub loop-i-init : goal.loop-i-init
@@ -36,11 +36,6 @@ pub returns-then-not-is_worked : goal.returns-then-not-is_worked
 returns-then-not-is_worked c =
     refused c.loop-i.invariant.0 c.loop-i-test.true (its_answer (met (goal.at.returns-then-not-is_worked c).After-load_answer-answer)) c.is_worked.ensures c.if-not-is_worked.true-raw
 
--- a load that is passed has room on a wall that is counted
-room : (c : Else-not-is_worked) → let counted = c.before.before.before.before in
-    (get_or counted.entry_in-entry.result 0 0 ≤ most_walls) × (counted.count_on-passed.result < most_loads_on_wall)
-room c = has_room (met c.before.before) c.is_worked.ensures c.if-not-is_worked.false-raw
-
 pub loop-i-preserved : goal.loop-i-preserved
 loop-i-preserved c =
     let answered = met (goal.at.loop-i-preserved c).After-load_answer-answer in
@@ -51,13 +46,13 @@ pub returns : goal.returns
 returns c = all_passed c.loop-i.invariant.0 c.loop-i-test.false
 
 pub overflow_cast-wall : goal.overflow_cast-wall
-overflow_cast-wall c = omega (arith, room (goal.at.overflow_cast-wall c).Else-not-is_worked)
+overflow_cast-wall c = omega (arith, has_room (met (goal.at.overflow_cast-wall c).After-load_answer-answer) c.is_worked.ensures c.if-not-is_worked.false-raw)
 
 pub overflow_add-counts : goal.overflow_add-counts
-overflow_add-counts c = omega (arith, room (goal.at.overflow_add-counts c).Else-not-is_worked)
+overflow_add-counts c = omega (arith, has_room (met (goal.at.overflow_add-counts c).After-load_answer-answer) c.is_worked.ensures c.if-not-is_worked.false-raw)
 
 pub offset_bounds-counts-wall : goal.offset_bounds-counts-wall
-offset_bounds-counts-wall c = omega (arith, room (goal.at.offset_bounds-counts-wall c).Else-not-is_worked)
+offset_bounds-counts-wall c = omega (arith, has_room (met (goal.at.offset_bounds-counts-wall c).After-load_answer-answer) c.is_worked.ensures c.if-not-is_worked.false-raw)
 
 pub bounds-counts-wall : goal.bounds-counts-wall
-bounds-counts-wall c = omega (arith, room (goal.at.bounds-counts-wall c).Else-not-is_worked)
+bounds-counts-wall c = omega (arith, has_room (met (goal.at.bounds-counts-wall c).After-load_answer-answer) c.is_worked.ensures c.if-not-is_worked.false-raw)

@@ -21,7 +21,7 @@ room : (c : Start) → let args = c.args in header_bytes + 4 * length args.walls
 room c = omega (arith, c.requires.1, file_length c.args.walls.now c.args.loads.now)
 
 pub put_header-requires : goal.put_header-requires
-put_header-requires c = let begun = c in omega (arith, few begun, room begun)
+put_header-requires c = let begun = (goal.at.put_header-requires c).Start in omega (arith, few begun, room begun)
 
 abbrev walls : After-put_header → List ℕ
 walls c = c.args.walls.now
@@ -41,7 +41,7 @@ header-put c =
     }
 
 pub put_u32s-requires : goal.put_u32s-requires
-put_u32s-requires c = let headed = c in room_left (header-put (goal.at.put_u32s-requires c).After-put_header) (omega (arith, room headed))
+put_u32s-requires c = let headed = (goal.at.put_u32s-requires c).Start in room_left (header-put (goal.at.put_u32s-requires c).After-put_header) (omega (arith, room headed))
 
 walls-put : (c : After-put_u32s) → let h = c in
     Put (header h ++ u32s_bytes (walls h)) h.args.out.now (header_bytes + 4 * length (walls h))
