@@ -38,7 +38,7 @@ returns-then-walls-wall c =
 -- past the other two, the wall is there
 there : (c : Else-walls-wall) → let asked = c.args in T (accepted asked.job.now) × (asked.wall - 1 < wall_count asked.job.now)
 there c =
-    (rw (worked c.before) tt, omega (arith, c.if-wall-lt1.false, c.if-walls-wall.false, c.wall_count-walls.ensures))
+    (rw (passed c.first_refusal-answer.ensures c.is_worked.ensures c.if-not-is_worked.false-raw) tt, omega (arith, c.if-wall-lt1.false, c.if-walls-wall.false, c.wall_count-walls.ensures))
 
 pub returns : goal.returns
 returns c =

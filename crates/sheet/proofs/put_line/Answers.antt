@@ -5,7 +5,9 @@ use native.Mathlib.Omega.{arith}
 use lib.ListN.{length, length-set, get_or, take}
 use lib.Seq.{take_all}
 use lib.IntN.{pos}
+use borrow.Author.Rules.{rules}
 use mir.Syntax.{w64}
+use mir.Val.{SFits}
 use mir.ValLaws.{to_z-of_z}
 use Rattle.rules.specs.SheetLine.{line_numbers}
 use Rattle.rules.specs.Beyond.{onto}
@@ -18,11 +20,12 @@ loop-k-init c = (omega arith, c.well_formed.0.1.0.1, refl, refl)
 
 pub loop-k-preserved : goal.loop-k-preserved
 loop-k-preserved c =
-    let loop = c.loop-k in (
+    let loop = c.loop-k in
+    let fits : SFits w64 (get_or c.args.numbers loop.k (pos 0)) = search rules in (
       omega arith,
       loop.invariant.1,
       simp length-set loop.invariant.2,
-      rw (to_z-of_z w64 (get_or c.args.numbers loop.k (pos 0)) (record { sfits = c.out.given }), loop.invariant.3)
+      rw (to_z-of_z w64 (get_or c.args.numbers loop.k (pos 0)) fits, loop.invariant.3)
           (onto_one_more c.args.numbers c.args.out.now loop.k (pos 0) (omega (arith, loop.invariant.1)) (omega (arith, c.requires, loop.invariant.1))),
     )
 

@@ -21,11 +21,11 @@ pub loop-i-init : goal.loop-i-init
 loop-i-init c = (counted (goal.at.loop-i-init c).After-wall_count-walls, c.requires.1, omega arith, none_put)
 
 abbrev its : (c : After-slice_known-in-loop-i-1) → List ℕ
-its c = get_or (map line_text (sheet (start c.before).args.job.now)) c.loop-i.i []
+its c = get_or (map line_text (sheet c.args.job.now)) c.loop-i.i []
 
 -- it is put whole, and fits
 put : (c : After-slice_known-in-loop-i-1) → let loop = c.loop-i in let call = c.line_text-used in
-    Put (its c) (behind loop.used loop.out) call.result call.new.1.0 × (call.result ≤ line_room)
+    Put (its c) (behind loop.used loop.out) call.result call.new.out × (call.result ≤ line_room)
 put c =
     let inv = c.loop-i.invariant in
     text_put _ _ (omega (arith, inv.0.all)) inv.0.accepts (room_behind inv.3 (omega arith))
@@ -33,7 +33,7 @@ put c =
 
 pub loop-i-preserved : goal.loop-i-preserved
 loop-i-preserved c =
-    let file = (start c).args.job.now in
+    let file = c.args.job.now in
     let inv = c.loop-i.invariant in (
       one_passed inv.0 (omega arith),
       inv.1,

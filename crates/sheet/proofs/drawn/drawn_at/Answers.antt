@@ -12,29 +12,21 @@ use Rattle.rules.proofs.Doubles.{divided, shaped}
 use Rattle.rules.proofs.Drawings.{drawn_is}
 use Rattle.rules.proofs.Examined.{Fit, fit, wall_of_file}
 use Rattle.sheet.proofs.Sheets.{borne_by}
-use Rattle.sheet.proofs.drawn.drawn_at.Goals.{After-blocks-borne, Start}
+use Rattle.sheet.proofs.drawn.drawn_at.Goals.{After-blocks-borne}
 use Rattle.sheet.proofs.drawn.drawn_at.Goals as goal
 
--- the wall and its loads
-abbrev wall : Start → Wall
-wall s = wall_at s.args.job.now s.args.i
-
-abbrev its : Start → List Load
-its s = loads_on (suc s.args.i) (entries s.args.job.now)
-
-fitted : (s : Start) → Fit (wall s) (its s)
-fitted s = fit _ _ (wall_of_file _ s.requires.0 _ s.requires.1)
-
-borne : (c : After-blocks-borne) → c.blocks-borne.result ≡ worked_bearing (wall c) (its c)
-borne c = let s = c in cc (borne_by s.args.job.now s.args.i s.pre.1 s.pre.0)
+-- the wall and its loads are borne as the rules have it
+borne : (c : After-blocks-borne) → let job = c.args.job.now in
+    c.blocks-borne.result ≡ worked_bearing (wall_at job c.args.i) (loads_on (suc c.args.i) (entries job))
+borne c = cc (borne_by c.args.job.now c.args.i c.requires.1 c.requires.0)
 
 pub drawing_of-requires : goal.drawing_of-requires
 unfolding worked_bearing worked_forces
-drawing_of-requires c = rw (borne (goal.at.drawing_of-requires c).After-blocks-borne) (divided _ _ (fitted c))
+drawing_of-requires c = rw (borne (goal.at.drawing_of-requires c).After-blocks-borne) (divided _ _ (fit _ _ (wall_of_file _ c.requires.0 _ c.requires.1)))
 
 pub shape_of-requires : goal.shape_of-requires
 unfolding worked_bearing pressed_by
-shape_of-requires c = rw (borne (goal.at.shape_of-requires c).After-blocks-borne) (shaped _ _ (fitted c), refl)
+shape_of-requires c = rw (borne (goal.at.shape_of-requires c).After-blocks-borne) (shaped _ _ (fit _ _ (wall_of_file _ c.requires.0 _ c.requires.1)), refl)
 
 pub returns : goal.returns
 unfolding worked_bearing worked_forces pressed_by

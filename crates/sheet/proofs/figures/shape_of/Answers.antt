@@ -27,7 +27,7 @@ under c = back _ (omega (arith, c.requires.0.under))
 
 pub returns-in-Full : goal.returns-in-Full
 unfolding shape_of shape_by
-returns-in-Full c = let s = (goal.at.returns-in-Full c).Start in rw c.enum_told.given.1 (cc (toe s, heel s))
+returns-in-Full c = let s = (goal.at.returns-in-Full c).Start in rw c.in-Full.is (cc (toe s, heel s))
 
 pub returns-in-FromToe : goal.returns-in-FromToe
 unfolding shape_of shape_by
