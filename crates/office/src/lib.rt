@@ -75,8 +75,7 @@ fn put_figures(drawn: Drawn, out: &mut [f64])
 }
 
 // The sheet of a job in numbers: nineteen for each wall, and whatever stands behind them as it was; or a refusal, and the buffer as it was.
-#[unsafe(no_mangle)]
-pub extern "C" fn office_calculate(job: &[u8], out: &mut [i64]) -> u64
+pub fn office_calculate(job: &[u8], out: &mut [i64]) -> u64
     ensures { CalculatesPacked job.now out.old result out.new }
 {
     packed(sheet::calculate(job, out), 0)
@@ -84,8 +83,7 @@ pub extern "C" fn office_calculate(job: &[u8], out: &mut [i64]) -> u64
 
 // The sheet of a job as it is printed, at the start of the buffer, and how many bytes it took; a refusal is printed too. Without room for the text of
 // any job nothing is put, and 0 bytes are used.
-#[unsafe(no_mangle)]
-pub extern "C" fn office_text(job: &[u8], out: &mut [u8]) -> usize
+pub fn office_text(job: &[u8], out: &mut [u8]) -> usize
     ensures { Prints job.now out.old result out.new }
 {
     sheet::text(job, out)
@@ -93,8 +91,7 @@ pub extern "C" fn office_text(job: &[u8], out: &mut [u8]) -> usize
 
 // The drawing of a wall, by its number in the file: its figures, and whatever stands behind them as it was; or a refusal, and the buffer as it was.
 // Room for five figures is wanted, whatever the shape.
-#[unsafe(no_mangle)]
-pub extern "C" fn office_drawing(job: &[u8], wall: u32, out: &mut [f64]) -> u64
+pub fn office_drawing(job: &[u8], wall: u32, out: &mut [f64]) -> u64
     ensures { DrawsPacked job.now wall out.old result out.new }
 {
     let drawn = sheet::drawing(job, wall);
@@ -113,8 +110,7 @@ pub extern "C" fn office_drawing(job: &[u8], wall: u32, out: &mut [f64]) -> u64
 
 // The job file that records make, at the start of the buffer, and whatever stands behind it as it was; the answer has how many bytes it took. Or a
 // refusal, and the buffer as it was.
-#[unsafe(no_mangle)]
-pub extern "C" fn office_write(walls: &[u32], loads: &[u32], out: &mut [u8]) -> u64
+pub fn office_write(walls: &[u32], loads: &[u32], out: &mut [u8]) -> u64
     ensures { WritesPacked walls.now loads.now out.old result out.new }
 {
     let written = writing::write(walls, loads, out);
@@ -124,8 +120,7 @@ pub extern "C" fn office_write(walls: &[u32], loads: &[u32], out: &mut [u8]) -> 
 
 // The records of a job's walls and of its loads, each at the start of a buffer, and whatever stands behind them as it was; or a refusal, and both buffers
 // as they were.
-#[unsafe(no_mangle)]
-pub extern "C" fn office_records(job: &[u8], walls: &mut [u32], loads: &mut [u32]) -> u64
+pub fn office_records(job: &[u8], walls: &mut [u32], loads: &mut [u32]) -> u64
     ensures { TakesApartPacked job.now walls.old loads.old result walls.new loads.new }
 {
     let taken = job::take_apart(job, walls, loads);
@@ -134,8 +129,7 @@ pub extern "C" fn office_records(job: &[u8], walls: &mut [u32], loads: &mut [u32
 }
 
 // Is the bit of a check set in the failures of a line? The check is named by its bit; of a number that is no check's bit the answer is false.
-#[unsafe(no_mangle)]
-pub extern "C" fn office_has_failed(failures: u16, check: u16) -> bool
+pub fn office_has_failed(failures: u16, check: u16) -> bool
     ensures { result ≡ has_failed checks failures check }
 {
     match check {

@@ -17,7 +17,7 @@ abbrev three : After-put_pair → List Float
 three c = let d = c.args.drawn.drawing in d.R ∷ d.H ∷ d.distance ∷ []
 
 abbrev after : After-put_pair → List Float
-after c = set c.put_pair.new.1.1.0 2 c.args.drawn.drawing.distance
+after c = set c.put_pair.new.out 2 c.args.drawn.drawing.distance
 
 put : (c : After-put_pair) → Put (three c) c.args.out.now 3 (after c)
 put c = then_byte _ (record { counted = refl; holds = c.put_pair.ensures }) (omega (arith, c.requires))
@@ -35,7 +35,7 @@ pub shape_of-out : goal.shape_of-out
 shape_of-out c =
     let d = (goal.at.shape_of-out c).After-put_pair in
     let buffer = after d in
-    same_len_mid 3 (length buffer - 3) buffer d.put_shape.new.1.0 d.put_shape.auto.1.0 ∙ kept d
+    same_len_mid 3 (length buffer - 3) buffer c.put_shape.new.out c.put_shape.auto.out ∙ kept d
 
 pub returns : goal.returns
 unfolding figures
