@@ -3,35 +3,34 @@
 // buffer the start is enough (`rules` `LongInput.printed_read`).
 #![tactic(auto)]
 
-use libc::{STDERR_FILENO, STDOUT_FILENO};
+ghost use Rattle.std.specs.Prelude.{◌≤◌, IfOk, length};
 
-// What came of a file: whether standard output took all that was printed of it, and whether it was written again byte for byte.
-#[derive(Clone, Copy)]
-struct Outcome {
-    is_printed: bool,
-    is_same: bool,
-}
+use std::env::{Env, FillError};
+use std::io;
+use std::io::{Read, Write};
+use std::rt::Files;
+use std::{fs, str};
 
-// Says why the file that this argument names has no sheet.
-fn tell_unread(number: usize, name: &[u8]) -> Outcome {
-    io::write_all(STDERR_FILENO, b"argument ");
-    io::print_decimal(STDERR_FILENO, number as u64);
-    io::write_all(STDERR_FILENO, b", ");
-    os::fail(name);
-    let is_printed = io::write_all(STDOUT_FILENO, b"unread ")
-        && io::print_decimal(STDOUT_FILENO, number as u64)
-        && io::write_all(STDOUT_FILENO, b"\n");
-    Outcome {
-        is_printed,
-        is_same: false,
-    }
+// So much of a file is read, and no text is longer.
+const BUFFER: usize = 65536;
+
+// So much of an argument is read: no path is longer.
+const NAME: usize = 4096;
+
+// Reads until the buffer is full or the input ends, and answers how many bytes stand in it.
+fn read_full<R: Read + Drop>(input: R, buffer: &mut [u8]) -> io::Result<usize>
+    ensures { IfOk result (λ n. n ≤ length buffer.new) }
+{
+    let room = buffer.len();
+    let count = io::copy(&mut input.take(room as u64), &mut &mut *buffer)?;
+    Ok(room.min(count as usize))
 }
 
 // The sheet of a job.
-fn print_sheet(job: &[u8]) -> bool {
-    let mut text = io::large_buffer();
+fn print_sheet<W: Write>(job: &[u8], out: &mut W) -> io::Result<()> {
+    let mut text = [0u8; BUFFER];
     let count = sheet::text(job, &mut text);
-    io::write_all(STDOUT_FILENO, &text[..count])
+    out.write_all(&text[..count])
 }
 
 // Are two files the same?
@@ -49,65 +48,72 @@ fn are_same(one: &[u8], other: &[u8]) -> bool {
 
 // Is a job the same when it is taken apart and written again?
 fn is_same_again(job: &[u8]) -> bool {
-    let mut file = io::large_buffer();
+    let mut file = [0u8; BUFFER];
     let count = sheet::rewrite(job, &mut file);
     are_same(job, &file[..count])
 }
 
-// The sheet of a job, and what came of writing it again; one that is refused isn't written.
-fn print_job(job: &[u8]) -> Outcome {
+// The sheet of a job, and whether it was written again byte for byte; one that is refused isn't written.
+fn print_job<W: Write>(job: &[u8], out: &mut W) -> io::Result<bool> {
     let is_accepted = reply::is_worked(job::first_refusal(job));
-    Outcome {
-        is_printed: print_sheet(job),
-        is_same: is_accepted & is_same_again(job),
-    }
+    print_sheet(job, out)?;
+    Ok(is_accepted & is_same_again(job))
 }
 
-// That of an open file.
-fn print_open(file: i32, number: usize, name: &[u8]) -> Outcome {
-    let mut job = io::large_buffer();
-    let length = io::read_full(file, &mut job);
-    if os::errno() != 0 {
-        return tell_unread(number, name);
-    }
-    print_job(&job[..length])
+// Says why the file that this argument names has no sheet.
+fn tell_unread<R: Print + Eprint>(
+    rt: &R,
+    number: usize,
+    name: &str,
+    why: &io::Error,
+) -> io::Result<()> {
+    eprintln!(rt; "argument {number}, {name}: {why}")?;
+    println!(rt; "unread {number}")
 }
 
-// That of the file that this argument names. `os::arg` clears an earlier file's error, so one that stands after the reading is this file's.
-fn print_file(number: usize) -> Outcome {
-    let mut name = io::buffer();
-    let length = os::arg(number, &mut name);
-    if os::errno() != 0 {
-        return tell_unread(number, &name[..length]);
-    }
-    let file = os::open_read(&name[..length]);
-    if file < 0 {
-        return tell_unread(number, &name[..length]);
-    }
-    let outcome = print_open(file, number, &name[..length]);
-    libc::close(file);
-    outcome
+// Reads the file of this name.
+fn read_file<R: Files>(rt: &R, name: &str, job: &mut [u8]) -> io::Result<usize>
+    ensures { IfOk result (λ n. n ≤ length job.new) }
+{
+    read_full(fs::open(rt, name)?, job)
 }
 
-// How many were the same.
-fn print_again(count: u64) -> bool {
-    io::print_decimal(STDOUT_FILENO, count)
-        && io::write_all(STDOUT_FILENO, b" jobs written again, byte for byte\n")
-}
-
-fn main() {
-    let mut again = 0u64;
-    for number in 1..os::arg_count() {
-        let outcome = print_file(number);
-        if !outcome.is_printed {
-            os::fail(b"stdout");
-            return;
+// What is printed of the file that this argument names, and whether it was written again byte for byte.
+fn print_file<R: Files + Print + Eprint>(rt: &R, number: usize, name: &str) -> io::Result<bool> {
+    let mut job = [0u8; BUFFER];
+    match read_file(rt, name, &mut job) {
+        Ok(length) => print_job(&job[..length], &mut io::writer(rt)),
+        Err(why) => {
+            tell_unread(rt, number, name, &why)?;
+            Ok(false)
         }
-        if outcome.is_same {
+    }
+}
+
+// That of an argument that was read, which names a file only where it is text.
+fn print_named<R: Files + Print + Eprint>(rt: &R, number: usize, name: &[u8]) -> io::Result<bool> {
+    match str::from_utf8(name) {
+        Ok(text) => print_file(rt, number, text),
+        Err(_) => {
+            let why = io::Error::from(io::ErrorKind::InvalidInput);
+            tell_unread(rt, number, "which is no text", &why)?;
+            Ok(false)
+        }
+    }
+}
+
+fn main(rt: HostRuntime) -> io::Result<()> {
+    let mut again = 0u64;
+    for number in 1..usize::MAX {
+        let mut name = [0u8; NAME];
+        let is_same = match rt.arg(number, &mut name) {
+            Ok(length) => print_named(&rt, number, &name[..length])?,
+            Err(FillError::TooLong) => print_named(&rt, number, &name)?,
+            Err(FillError::NotPresent) => break,
+        };
+        if is_same {
             again += 1;
         }
     }
-    if !print_again(again) {
-        os::fail(b"stdout");
-    }
+    println!(rt; "{again} jobs written again, byte for byte")
 }

@@ -4,54 +4,77 @@
 
 mod commands;
 
+ghost use Rattle.std.specs.Prelude.{◌≤◌, IfOk, length};
+
 use commands::Command;
-use libc::{STDERR_FILENO, STDIN_FILENO, STDOUT_FILENO};
+use std::env::{Env, FillError};
+use std::io;
+use std::io::{Read, Write};
 
-// The job written again, or its refusal; answers whether standard output took it all.
-fn print_rewritten(job: &[u8]) -> bool {
-    let mut file = io::large_buffer();
+// So much of an input is read, and no job is longer.
+const BUFFER: usize = 65536;
+
+// So much of an argument is read: no path is longer.
+const WORD: usize = 4096;
+
+// Reads until the buffer is full or the input ends, and answers how many bytes stand in it.
+fn read_full<R: Read + Drop>(input: R, buffer: &mut [u8]) -> io::Result<usize>
+    ensures { IfOk result (λ n. n ≤ length buffer.new) }
+{
+    let room = buffer.len();
+    let count = io::copy(&mut input.take(room as u64), &mut &mut *buffer)?;
+    Ok(room.min(count as usize))
+}
+
+// The job written again, or its refusal.
+fn print_rewritten<W: Write>(job: &[u8], out: &mut W) -> io::Result<()> {
+    let mut file = [0u8; BUFFER];
     let count = sheet::rewrite(job, &mut file);
-    io::write_all(STDOUT_FILENO, &file[..count])
+    out.write_all(&file[..count])
 }
 
-// That of the job on standard input.
-fn rewrite() {
-    let mut job = io::large_buffer();
-    let length = io::read_full(STDIN_FILENO, &mut job);
-    if os::errno() != 0 {
-        os::fail(b"stdin");
-        return;
-    }
-    if !print_rewritten(&job[..length]) {
-        os::fail(b"stdout");
-    }
+// That of the job that is read.
+fn rewrite<R: Read + Drop, W: Write>(input: R, out: &mut W) -> io::Result<()> {
+    let mut job = [0u8; BUFFER];
+    let length = read_full(input, &mut job)?;
+    print_rewritten(&job[..length], out)
 }
 
-fn say_what_it_can_do(to: i32) {
-    io::write_all(
-        to,
+fn say_what_it_can_do<W: Write>(out: &mut W) -> io::Result<()> {
+    out.write_all(
         b"desk COMMAND works on a job file. The commands:\n  rewrite   reads a job on standard input, takes it apart and writes it again on standard output;\n            of a job that is refused it prints the line of the refusal\n",
-    );
+    )
 }
 
-fn say_no_command() {
-    io::write_all(STDERR_FILENO, b"desk: there is no such command\n");
-    say_what_it_can_do(STDERR_FILENO);
+fn say_no_command<W: Write>(out: &mut W) -> io::Result<()> {
+    out.write_all(b"desk: there is no such command\n")?;
+    say_what_it_can_do(out)
 }
 
-fn main() {
-    if os::arg_count() < 2 {
-        say_what_it_can_do(STDOUT_FILENO);
-        return;
+// Is there an argument with this number?
+fn is_given<E: Env>(program: &E, number: usize) -> bool {
+    let mut start = [0u8; 1];
+    !matches!(program.arg(number, &mut start), Err(FillError::NotPresent))
+}
+
+// What the arguments ask for; one command has none behind it. A word that is longer than any command is none.
+fn asked<E: Env>(program: &E) -> Command {
+    if is_given(program, 2) {
+        return Command::Unknown;
     }
-    if os::arg_count() != 2 {
-        say_no_command();
-        return;
+    let mut word = [0u8; WORD];
+    match program.arg(1, &mut word) {
+        Ok(length) => commands::command_of(&word[..length]),
+        Err(_) => Command::Unknown,
     }
-    let mut word = io::buffer();
-    let length = os::arg(1, &mut word);
-    match commands::command_of(&word[..length]) {
-        Command::Rewrite => rewrite(),
-        Command::Unknown => say_no_command(),
+}
+
+fn main(rt: HostRuntime) -> io::Result<()> {
+    if !is_given(&rt, 1) {
+        return say_what_it_can_do(&mut rt.stdout());
+    }
+    match asked(&rt) {
+        Command::Rewrite => rewrite(rt.stdin(), &mut rt.stdout()),
+        Command::Unknown => say_no_command(&mut rt.stderr()),
     }
 }

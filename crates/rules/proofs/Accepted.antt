@@ -11,7 +11,7 @@ use lib.ListN.{length, get_or}
 use borrow.Author.Tests.{leb-true, le-leb}
 use Rattle.rules.specs.declared.Range.{Range}
 use Rattle.rules.specs.declared.Range.TheVariants.{Between, UpToTop, AlongBase, UnderBase, ABar}
-use Rattle.rules.specs.JobFile.{Wall, Load, wall_fields, bars, among, has_downstand, within, base_length, crest_height, wall_height, excavation, surcharge, downstand_position, downstand_thickness, field, ranges, first_outside, first_bad_field, wall_fits, direction, position, dead_load, live_load, greatest_load, reach, load_fits}
+use Rattle.rules.specs.JobFile.{Wall, Load, wall_fields, bars, among, has_downstand, within, base_length, crest_height, wall_height, downstand_position, downstand_thickness, field, ranges, first_outside, first_bad_field, wall_fits, direction, position, dead_load, live_load, greatest_load, reach, load_fits}
 use Rattle.rules.specs.ToeAndStem.{bar_areas}
 
 -- ---- tests

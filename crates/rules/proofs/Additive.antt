@@ -12,7 +12,7 @@ use Rattle.whole.proofs.Lists.{case}
 use Rattle.whole.proofs.Sums.{sum_of_add, sum_of_joined, sum_of_map, sum_of_reordered}
 use Rattle.rules.specs.declared.Totals.{Totals}
 use Rattle.rules.specs.JobFile.{Wall, Load, active_coefficient, rest_coefficient, is_down, dead_load, live_load}
-use Rattle.rules.specs.Forces.{Sort, deadWeight, liveWeight, deadPush, livePush, Component, down, across, load_row, dead_row, live_row, load_table, table, vertical, horizontal, moment, column_sum, once, tenths, restores, overturns, moment_of, totals, service, factored, lasting_weight, sliding_of}
+use Rattle.rules.specs.Forces.{Sort, deadWeight, liveWeight, deadPush, livePush, Component, load_row, dead_row, live_row, load_table, table, vertical, horizontal, moment, column_sum, once, tenths, restores, overturns, moment_of, totals, service, factored, lasting_weight, sliding_of}
 use Rattle.rules.proofs.Moments.{balances, one_sum}
 
 -- what stands in both of two sums counts once where they are joined

@@ -1,20 +1,20 @@
 -- Document 02, "#102 Say which field": nothing accepted changes. What document 01 told of a file before that request is a function of what is told now.
-use mathlib.Core.Path.{◌≡◌, refl, sym, ap, ◌∙◌}
+use mathlib.Core.Path.{◌≡◌, refl, sym, ap}
 use mathlib.Core.Bool.{Bool, true, false, not, ◌&&◌, cond}
 use mathlib.Core.List.{List, [], ◌∷◌, ◌++◌}
 use Prim.Native.Nat.{ℕ, suc, ◌+◌, ◌*◌, ◌/◌}
 use native.Mathlib.Omega.{arith}
-use lib.Dec.{T, ltb, eqb}
+use lib.Dec.{ltb, eqb}
 use lib.ListN.{length}
 use borrow.Author.Tests.{eqb-true}
 use Rattle.whole.proofs.Lists.{of_either}
 use Rattle.rules.specs.declared.Answer.{Answer}
-use Rattle.rules.specs.declared.Answer.TheVariants.{Worked, TooShort, WrongEdition, CountOutOfRange, WrongOffset, WrongLength, WallOutOfRange, LoadOutOfRange, NinthLoad, BufferTooShort, NoSuchWall}
+use Rattle.rules.specs.declared.Answer.TheVariants.{TooShort, WrongEdition, CountOutOfRange, WrongOffset, WrongLength, WallOutOfRange, LoadOutOfRange, NinthLoad, BufferTooShort, NoSuchWall}
 use Rattle.rules.specs.JobFile.{File, Wall, Entry, header_bytes, this_edition, edition, wall_count, first_wall_offset, load_count, first_load_offset, whole_length, entry_bytes, entries_at, walls, entries, first_bad_field, wall_fits}
 use Rattle.rules.specs.Answered.{number, place, is_worked, refused_if, ◌or_else◌, counts_fit, offsets_fit, length_fits, wall_answer, first_bad_wall, is_there, entry_fits, is_one_more, first_bad_load, first_refusal, accepted}
 use Rattle.rules.specs.SheetLine.{line_numbers, answer_to}
 use Rattle.rules.specs.Drawing.{answer_to_drawing}
-use Rattle.rules.proofs.Named.{FirstBad, first_bad}
+use Rattle.rules.proofs.Named.{first_bad}
 
 -- ---- what is told of an answer: its number and its place, and 0 and 0 where the job is worked
 

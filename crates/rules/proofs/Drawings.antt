@@ -26,7 +26,7 @@ use Rattle.rules.specs.declared.Totals.{Totals}
 use Rattle.rules.specs.JobFile.{File, Wall, Load, wall_count, wall_at, walls, entries, loads_on, base_length}
 use Rattle.rules.specs.Answered.{is_worked, refused_if, is_there, numbered, first_refusal, accepted}
 use Rattle.rules.specs.Forces.{service}
-use Rattle.rules.specs.Bearing.{of_kind, service_scale, reported, peak, given, block_under, service_block, is_given}
+use Rattle.rules.specs.Bearing.{of_kind, service_scale, reported, peak, block_under, service_block, is_given}
 use Rattle.rules.specs.Drawing.{in_thousands, drawing_of, shape_by, shape_of, answer_to_drawing, drawn, undrawn, drawing_for}
 use Rattle.rules.specs.Beyond.{fits, shape_figures, figures}
 use Rattle.rules.proofs.AcceptedFile.{walls_length, wall_at_lem, first_worked, there_is, passes}

@@ -1,9 +1,9 @@
 -- Document 02, "#102 Say which field", as theorems: which wall and which field refusal 5 names wherever walls are examined, that both are read off its place, and the order of 4, 10 and 5.
-use mathlib.Core.Path.{◌≡◌, refl, sym, ap, ◌∙◌}
+use mathlib.Core.Path.{◌≡◌, refl, sym, ◌∙◌}
 use mathlib.Core.Bool.{Bool, true, false, not, ◌||◌, and-eq-true_iff}
 use mathlib.Core.List.{List, [], ◌∷◌, ◌++◌, map}
 use mathlib.Core.Logic.{◌↔◌}
-use Prim.Native.Nat.{ℕ, zero, suc, ◌+◌, ◌-◌, ◌*◌, ◌/◌, ◌%◌, ◌≤◌, ◌<◌}
+use Prim.Native.Nat.{ℕ, suc, ◌+◌, ◌-◌, ◌*◌, ◌/◌, ◌%◌, ◌≤◌, ◌<◌}
 use native.Mathlib.Omega.{arith}
 use lib.Dec.{T, ltb, eqb, not_T}
 use lib.Ieee.Bits.{is_true, is_false}
@@ -11,7 +11,7 @@ use lib.ListN.{length, get_or}
 use borrow.Author.Tests.{le-ltb, eq-eqb, eqb-true}
 use Rattle.whole.proofs.Lists.{FirstFailed, fails_at_once, fails_behind, case}
 use Rattle.rules.specs.declared.Answer.{Answer}
-use Rattle.rules.specs.declared.Answer.TheVariants.{Worked, TooShort, WrongEdition, CountOutOfRange, WrongOffset, WrongLength, WallOutOfRange, LoadOutOfRange, NinthLoad, BufferTooShort, OutputTooShort, NoSuchWall}
+use Rattle.rules.specs.declared.Answer.TheVariants.{Worked, TooShort, WrongEdition, CountOutOfRange, WrongOffset, WrongLength, LoadOutOfRange, NinthLoad, BufferTooShort, OutputTooShort, NoSuchWall}
 use Rattle.rules.specs.declared.Range.{Range}
 use Rattle.rules.specs.declared.Range.TheVariants.{ABar}
 use Rattle.rules.specs.JobFile.{File, Wall, Load, Entry, wall_fields, entry_fields, header_bytes, this_edition, edition, wall_count, first_wall_offset, first_load_offset, whole_length, load_count, entry_bytes, entries_at, walls, entries, field, within, ranges, first_outside, first_bad_field, wall_fits}

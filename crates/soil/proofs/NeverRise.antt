@@ -1,17 +1,17 @@
 -- Document 02, "#108 Coefficients from the angle": what is proved of the coefficients. "At 24.2 degrees that is 591 and 419", and "both fall or stay as the angle grows".
-use mathlib.Core.Path.{◌≡◌, refl, sym, ◌∙◌, ap}
+use mathlib.Core.Path.{◌≡◌, refl}
 use mathlib.Core.Bool.{true}
 use Prim.Native.Nat.{ℕ, ◌+◌, ◌-◌, ◌*◌, ◌≤◌}
 use native.Mathlib.Omega.{arith}
 use native.Mathlib.Nat.{mul-le-mul}
 use borrow.Author.Tests.{le-leb}
-use lib.Dec.{leb, leb→le, lit<}
+use lib.Dec.{leb, leb→le}
 use Rattle.whole.specs.Rounding.{rounded_up, rounded_down, rounded_nearest}
 use Rattle.whole.proofs.Rounded.{up_mono, up_across}
 use Rattle.rules.specs.declared.Answer.TheVariants.{Worked}
 use Rattle.rules.specs.Coefficients.{million, sine, at_rest, active, is_soil, coefficients_of, turned, turned_by}
 use Rattle.rules.proofs.Accepted.{both}
-use Rattle.soil.proofs.Sines.{grows, at_most_one}
+use Rattle.soil.proofs.Sines.{grows}
 
 -- an angle that soil has is one of the table
 pub soil_from : (angle : ℕ) → is_soil angle ≡ true → (1 ≤ angle) × (angle ≤ 450)

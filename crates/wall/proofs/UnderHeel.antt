@@ -15,7 +15,6 @@ use Rattle.rules.specs.JobFile.{Wall, stem_thickness, toe_length, heel_length, b
 use Rattle.rules.specs.Bearing.{behind_by, behind, carried_behind, six_moments_behind, is_given_kind}
 use Rattle.rules.specs.ToeAndStem.{twice_arm, no_action, twice_heel_arm, whole_of, heel_bearing}
 use Rattle.rules.proofs.Accepted.{longest, wall_within, base_length_lem}
-use Rattle.rules.proofs.Pressures.{touches}
 use Rattle.rules.proofs.Behind.{Figures, full, from_toe, from_heel, none, full_block, toe_triangle, heel_triangle}
 use Rattle.rules.proofs.HeelBearing.{full_shear, full_moment}
 use Rattle.wall.specs.Working.{Made, Contact, Ends}

@@ -1,10 +1,9 @@
 -- How many bits the figures of a triangle have: each product that its bearing is worked from fits, in 64 bits or in a wide number, and so does each quotient.
-use Prim.Native.Nat.{ℕ, ◌+◌, ◌-◌, ◌*◌, ◌≤◌, ◌<◌, ◌^◌}
+use Prim.Native.Nat.{ℕ, ◌-◌, ◌*◌, ◌≤◌, ◌<◌, ◌^◌}
 use native.Mathlib.Nat.{mul-le-mul, mul-le-mul_left, mul-le-mul_right}
 use native.Mathlib.Omega.{arith}
 use Rattle.whole.specs.Rounding.{rounded_up}
 use Rattle.whole.proofs.Rounded.{up_least}
-use Rattle.rules.specs.Bearing.{greatest_peak}
 use Rattle.rules.specs.ToeAndStem.{per_pressure}
 use Rattle.rules.proofs.Accepted.{longest}
 use Rattle.rules.proofs.Sizes.{heaviest_factored}

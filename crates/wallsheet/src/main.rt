@@ -2,23 +2,32 @@
 // is enough, since no job is as long (`rules` `LongInput.printed_read`).
 #![tactic(auto)]
 
-use libc::{STDIN_FILENO, STDOUT_FILENO};
+ghost use Rattle.std.specs.Prelude.{◌≤◌, IfOk, length};
 
-// The sheet of a job; answers whether standard output took it all.
-fn print_sheet(job: &[u8]) -> bool {
-    let mut text = io::large_buffer();
-    let count = sheet::text(job, &mut text);
-    io::write_all(STDOUT_FILENO, &text[..count])
+use std::io;
+use std::io::{Read, Write};
+
+// So much of an input is read, and no text is longer.
+const BUFFER: usize = 65536;
+
+// Reads until the buffer is full or the input ends, and answers how many bytes stand in it.
+fn read_full<R: Read + Drop>(input: R, buffer: &mut [u8]) -> io::Result<usize>
+    ensures { IfOk result (λ n. n ≤ length buffer.new) }
+{
+    let room = buffer.len();
+    let count = io::copy(&mut input.take(room as u64), &mut &mut *buffer)?;
+    Ok(room.min(count as usize))
 }
 
-fn main() {
-    let mut job = io::large_buffer();
-    let length = io::read_full(STDIN_FILENO, &mut job);
-    if os::errno() != 0 {
-        os::fail(b"stdin");
-        return;
-    }
-    if !print_sheet(&job[..length]) {
-        os::fail(b"stdout");
-    }
+// The sheet of a job.
+fn print_sheet<W: Write>(job: &[u8], out: &mut W) -> io::Result<()> {
+    let mut text = [0u8; BUFFER];
+    let count = sheet::text(job, &mut text);
+    out.write_all(&text[..count])
+}
+
+fn main(rt: HostRuntime) -> io::Result<()> {
+    let mut job = [0u8; BUFFER];
+    let length = read_full(rt.stdin(), &mut job)?;
+    print_sheet(&job[..length], &mut rt.stdout())
 }

@@ -1,5 +1,6 @@
 // Whole numbers: division, rounded up, down and to the nearest, the greater of two, what lies above another or above 0, and the square root.
 #![tactic(auto)]
+
 ghost use Rattle.std.specs.Prelude.{◌≡◌, ◌+◌, ◌-◌, ◌*◌, ◌/◌, ◌^◌, ◌≤◌, ◌<◌, max};
 ghost use Rattle.whole.specs.Parts.{above_zero};
 ghost use Rattle.whole.specs.Rounding.{rounded_up, rounded_down, rounded_nearest};

@@ -1,5 +1,4 @@
 -- `bearing::blocks` meets its contract: the totals that are answered can be worked into blocks.
-use borrow.Author.Rules.{rules}
 use Rattle.rules.specs.Bearing.{block_under}
 use Rattle.rules.specs.Beyond.{bearing_of}
 use Rattle.bearing.proofs.Workable.{service_workable, factored_workable}

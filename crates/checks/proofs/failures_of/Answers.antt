@@ -1,6 +1,5 @@
 -- `checks::failures_of` meets its contract: the bits add up in the order of the checks.
 use native.Mathlib.Omega.{arith}
-use borrow.Author.Rules.{rules}
 use Rattle.rules.specs.SheetLine.{fails_by, bits_among, failures_by}
 use Rattle.checks.proofs.failures_of.Goals as goal
 

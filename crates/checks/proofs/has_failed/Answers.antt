@@ -1,6 +1,5 @@
 -- `checks::has_failed` meets its contract: the mask takes the lowest digit of what is shifted.
 use Prim.Native.Nat.{◌/◌, ◌^◌}
-use borrow.Author.Rules.{rules}
 use lib.Bits.{and_mask}
 use Rattle.rules.specs.SheetLine.{is_set}
 use Rattle.checks.proofs.has_failed.Goals as goal

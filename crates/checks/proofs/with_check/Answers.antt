@@ -1,7 +1,6 @@
 -- `checks::with_check` meets its contract: the shifted bit stands to the left of all that are set, so it is added.
 use Prim.Native.Nat.{◌<◌, ◌^◌}
 use native.Mathlib.Omega.{arith}
-use borrow.Author.Rules.{rules}
 use lib.Bits.{or_shifted_r}
 use lib.Dec.{lit<}
 use lib.Pow.{shl_exact}

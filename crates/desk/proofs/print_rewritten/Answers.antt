@@ -6,7 +6,7 @@ use Rattle.rules.proofs.Putting.{put_within}
 use Rattle.desk.proofs.print_rewritten.Goals as goal
 
 pub slice_bounds-file-end : goal.slice_bounds-file-end
-slice_bounds-file-end c = put_within c.rewrite-count.ensures
+slice_bounds-file-end g c = put_within c.rewrite-count.ensures
 
 pub slice_bounds-write_all-end : goal.slice_bounds-write_all-end
-slice_bounds-write_all-end c = sym (length-take-le _ _ (put_within c.rewrite-count.ensures))
+slice_bounds-write_all-end g c = sym (length-take-le _ _ (put_within c.rewrite-count.ensures))

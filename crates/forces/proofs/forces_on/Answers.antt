@@ -1,7 +1,6 @@
 -- `forces::forces_on` meets its contract. What is worked is a wall that fits with its loads.
 use mathlib.Core.Path.{◌≡◌, sym, ◌∙◌}
 use mathlib.Core.Bool.{true}
-use borrow.Author.Rules.{rules}
 use borrow.Author.Tests.{not-true, not-false}
 use Rattle.rules.specs.Beyond.{fits, forces_of}
 use Rattle.forces.proofs.forces_on.Goals.{After-is_worked, Else-not-is_worked}

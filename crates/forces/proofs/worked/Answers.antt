@@ -8,14 +8,12 @@ use mir.Syntax.{w64}
 use mir.Val.{SFits, to_z, of_z}
 use mir.ValLaws.{to_z-of_z}
 use Rattle.whole.proofs.Integer.{pos-<ℤ, nonneg_abs, fits_abs}
-use Rattle.rules.specs.JobFile.{Wall, Load, most_loads_on_wall, active_coefficient, rest_coefficient}
+use Rattle.rules.specs.JobFile.{Wall, Load, active_coefficient, rest_coefficient}
 use Rattle.rules.specs.Forces.{once, tenths, rests, vertical, table, service, factored, lasting_weight, sliding_of}
 use Rattle.rules.specs.Beyond.{worked_forces}
 use Rattle.rules.proofs.Accepted.{wall_within}
 use Rattle.rules.proofs.Examined.{Fit, fit}
 use Rattle.rules.proofs.Sizes.{lasting_nonneg, lasting_below}
-use Rattle.forces.specs.Faces.{rows_of}
-use Rattle.forces.specs.Sorts.{sorts_of, Small}
 use Rattle.forces.proofs.Summed.{Summable, wall_summable, small, sum_is, totals_are, light, all_light}
 use Rattle.forces.proofs.worked.Goals.{After-column_sum-resting}
 use Rattle.forces.proofs.worked.Goals as goal

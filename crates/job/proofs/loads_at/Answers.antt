@@ -1,11 +1,10 @@
 -- `job::loads_at` meets its contract. The invariant: the loads at the places passed are read.
 use mathlib.Core.Path.{refl, sym, ◌∙◌}
 use mathlib.Core.List.{[]}
-use Prim.Native.Nat.{◌-◌, ◌<◌}
+use Prim.Native.Nat.{◌<◌}
 use native.Mathlib.Omega.{arith}
 use lib.ListN.{length, length-map}
-use Rattle.whole.proofs.Indexed.{Filled, none_filled, one_more, all_filled, mapped}
-use Rattle.rules.specs.JobFile.{most_loads_on_wall}
+use Rattle.whole.proofs.Indexed.{none_filled, one_more, all_filled, mapped}
 use Rattle.job.specs.Places.{load_numbered, loads_at}
 use Rattle.job.proofs.loads_at.Goals as goal
 

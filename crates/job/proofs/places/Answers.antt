@@ -1,10 +1,9 @@
 -- `job::places` meets its contract. The invariant: the table is that of the entries passed.
 use mathlib.Core.Path.{◌≡◌, ◌∙◌}
-use Prim.Native.Nat.{◌-◌, ◌≤◌}
 use native.Mathlib.Omega.{arith}
-use borrow.Author.Tests.{leb-true, leb-false}
+use borrow.Author.Tests.{leb-true}
 use Rattle.rules.specs.JobFile.{entries}
-use Rattle.job.proofs.PlacesOfLoads.{Placed, begun, one_placed, none_placed, all_placed}
+use Rattle.job.proofs.PlacesOfLoads.{begun, one_placed, none_placed, all_placed}
 use Rattle.job.proofs.places.Goals as goal
 use Rattle.job.proofs.places.Goals.{then-wall-ge1+then-wall, else-wall-ge1, else-wall-ge1-via-then-wall-ge1+else-wall, else-wall-ge1-via-else-wall-ge1}
 
@@ -14,12 +13,12 @@ loop-i-preserved c =
     let its = c.entry_at-entry.ensures in (
       omega arith,
       elim c.if-wall-ge1.branch [
-        then-wall-ge1+then-wall w ↦ rw w.table-is (one_placed _ _ _ placed _ its (omega arith) (omega arith) _ w.with_place.ensures)
-      | else-wall-ge1 w ↦ rw w.table-is (none_placed _ _ _ placed _ its
-          (elim w.else-wall-ge1.branch [
-            else-wall-ge1-via-then-wall-ge1+else-wall v ↦ λ low high. omega arith
-          | else-wall-ge1-via-else-wall-ge1 v ↦ λ low high. omega arith
-          ]))
+        | then-wall-ge1+then-wall w ↦ rw w.table-is (one_placed _ _ _ placed _ its (omega arith) (omega arith) _ w.with_place.ensures)
+        | else-wall-ge1 w ↦ rw w.table-is (none_placed _ _ _ placed _ its
+            (elim w.else-wall-ge1.branch [
+              | else-wall-ge1-via-then-wall-ge1+else-wall v ↦ λ low high. omega arith
+              | else-wall-ge1-via-else-wall-ge1 v ↦ λ low high. omega arith
+            ]))
       ],
     )
 

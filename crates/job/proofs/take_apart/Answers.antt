@@ -1,5 +1,4 @@
 -- `job::take_apart` meets its contract.
-use borrow.Author.Rules.{rules}
 use borrow.Author.Tests.{not-true, not-false}
 use Prim.Native.Nat.{◌≤◌}
 use mathlib.Core.Path.{◌≡◌, sym, ◌∙◌}
@@ -47,4 +46,3 @@ slice_bounds-read_u32s-end c = (room (goal.at.slice_bounds-read_u32s-end c).Afte
 
 pub slice_bounds-read_u32s-end-3 : goal.slice_bounds-read_u32s-end-3
 slice_bounds-read_u32s-end-3 c = (room (goal.at.slice_bounds-read_u32s-end-3 c).After-load_numbers-load_numbers).1
-

@@ -1,5 +1,4 @@
 -- `job::wall_at` meets its contract.
-use borrow.Author.Rules.{rules}
 use Rattle.rules.specs.JobFile.{wall_at}
 use Rattle.job.proofs.wall_at.Goals as goal
 

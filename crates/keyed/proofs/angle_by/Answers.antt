@@ -1,6 +1,5 @@
 -- `keyed::angle_by` meets its contract.
 use mathlib.Core.Path.{sym, ◌∙◌}
-use borrow.Author.Rules.{rules}
 use Rattle.keyed.proofs.Reading.{told_small, value_read, angle_read, angle_none}
 use Rattle.keyed.proofs.angle_by.Goals as goal
 

@@ -1,6 +1,4 @@
 -- `keyed::angle_in` meets its contract.
-use mathlib.Core.Path.{ap, ◌∙◌}
-use borrow.Author.Rules.{rules}
 use Rattle.keyed.specs.Keyed.{angle_in}
 use Rattle.keyed.proofs.angle_in.Goals as goal
 

@@ -8,7 +8,7 @@ use borrow.Author.Tests.{le-leb, lt-leb, not-true, not-false}
 use lib.ListN.{get_or}
 use mir.Facts.{Fits-le, Fits-lit}
 use Rattle.keyed.specs.Keyed.{is_digit, beyond, digits_behind}
-use Rattle.keyed.proofs.Reading.{digit_from, Passed, told, none_passed, one_more, not_all, all_digits, all_made}
+use Rattle.keyed.proofs.Reading.{digit_from, told, none_passed, one_more, not_all, all_digits, all_made}
 use Rattle.keyed.proofs.digits_behind.Goals.{Else-not-is_digit}
 use Rattle.keyed.proofs.digits_behind.Goals as goal
 

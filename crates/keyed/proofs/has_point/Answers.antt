@@ -1,5 +1,4 @@
 -- `keyed::has_point` meets its contract.
-use borrow.Author.Rules.{rules}
 use borrow.Author.Tests.{le-leb, lt-leb}
 use Rattle.keyed.specs.Keyed.{has_point}
 use Rattle.keyed.proofs.has_point.Goals as goal

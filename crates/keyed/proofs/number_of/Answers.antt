@@ -1,6 +1,5 @@
 -- `keyed::number_of` meets its contract.
 use mathlib.Core.Path.{sym, ◌∙◌}
-use borrow.Author.Rules.{rules}
 use borrow.Author.Tests.{lt-leb}
 use Rattle.keyed.specs.Keyed.{is_number, asked_for}
 use Rattle.keyed.proofs.Reading.{number_read, number_beyond, number_none}

@@ -1,5 +1,4 @@
 -- `office::office_calculate` meets its contract.
-use borrow.Author.Rules.{rules}
 use Rattle.office.proofs.office_calculate.Goals as goal
 
 pub returns : goal.returns

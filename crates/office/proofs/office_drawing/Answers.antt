@@ -1,5 +1,4 @@
 -- `office::office_drawing` meets its contract: each answer follows from the tests that led to it.
-use borrow.Author.Rules.{rules}
 use mathlib.Core.Path.{◌≡◌, sym, ◌∙◌}
 use mathlib.Core.Bool.{true}
 use borrow.Author.Tests.{not-true, not-false}

@@ -1,5 +1,4 @@
 -- `office::office_records` meets its contract.
-use borrow.Author.Rules.{rules}
 use Rattle.office.proofs.office_records.Goals as goal
 
 pub returns : goal.returns

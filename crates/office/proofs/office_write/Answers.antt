@@ -1,5 +1,4 @@
 -- `office::office_write` meets its contract: the bytes of any job are few enough for their bits.
-use borrow.Author.Rules.{rules}
 use native.Mathlib.Omega.{arith}
 use Rattle.rules.proofs.Rewritten.{written_small}
 use Rattle.office.proofs.office_write.Goals as goal

@@ -1,5 +1,4 @@
 -- `office::packed` meets its contract: each part is small enough for its bits.
-use borrow.Author.Rules.{rules}
 use native.Mathlib.Omega.{arith}
 use Rattle.rules.proofs.Replies.{number_below}
 use Rattle.office.proofs.packed.Goals as goal

@@ -1,5 +1,4 @@
 -- `office::put_figures` meets its contract: two figures, a third behind them, and the shape's behind those.
-use borrow.Author.Rules.{rules}
 use mathlib.Core.Path.{◌≡◌, refl, ◌∙◌}
 use mathlib.Core.List.{List, [], ◌∷◌}
 use Prim.Native.Nat.{◌-◌}

@@ -1,5 +1,4 @@
 -- `record::base_length` meets its contract. Three fields of 32 bits add up.
-use borrow.Author.Rules.{rules}
 use native.Mathlib.Omega.{arith}
 use Rattle.rules.specs.JobFile.{base_length}
 use Rattle.record.proofs.base_length.Goals as goal

@@ -1,7 +1,6 @@
 -- `record::examined` meets its contract. The wall is examined by itself, and then load after load.
 use mathlib.Core.Path.{◌≡◌, sym, ◌∙◌}
 use native.Mathlib.Omega.{arith}
-use borrow.Author.Rules.{rules}
 use borrow.Author.Tests.{not-true, not-false, lt-ltb, le-ltb}
 use Rattle.rules.specs.Answered.{◌or_else◌}
 use Rattle.rules.specs.Beyond.{examined, first_unfit}

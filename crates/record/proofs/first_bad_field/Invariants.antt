@@ -1,14 +1,8 @@
 -- `record::first_bad_field` meets its contract. The invariant: the first bad field is the first from the next one on. The table that is gone through
 -- is that of the rules: the two are compared entry by entry.
-use mathlib.Core.Path.{◌≡◌, refl, sym, ◌∙◌}
-use mathlib.Core.Bool.{cond}
-use Prim.Native.Nat.{suc, ◌-◌, ◌≤◌}
-use native.Mathlib.Omega.{arith}
-use native.Mathlib.Numerals.{add-one}
-use borrow.Author.Tests.{not-true, not-false}
+use mathlib.Core.Path.{◌≡◌}
+use Prim.Native.Nat.{suc, ◌≤◌}
 use lib.ListN.{drop}
-use lib.Seq.{drop-cons}
-use Rattle.rules.specs.declared.Range.TheVariants.{Between}
 use Rattle.rules.specs.JobFile.{wall_fields, ranges, first_outside, first_bad_field}
 use Rattle.record.proofs.first_bad_field.Given as goal
 

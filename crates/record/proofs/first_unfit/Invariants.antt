@@ -1,13 +1,7 @@
 -- `record::first_unfit` meets its contract. The invariant: the first load that doesn't fit is the first from the next one on.
-use mathlib.Core.Path.{◌≡◌, refl, sym, ◌∙◌}
-use mathlib.Core.Bool.{cond}
-use mathlib.Core.List.{[]}
-use Prim.Native.Nat.{suc, ◌-◌, ◌≤◌}
-use native.Mathlib.Omega.{arith}
-use native.Mathlib.Numerals.{add-one}
-use borrow.Author.Tests.{not-true, not-false}
-use lib.ListN.{length, drop, drop_of_length-le}
-use lib.Seq.{drop-cons}
+use mathlib.Core.Path.{◌≡◌}
+use Prim.Native.Nat.{suc, ◌≤◌}
+use lib.ListN.{drop}
 use Rattle.rules.specs.JobFile.{most_loads_on_wall}
 use Rattle.rules.specs.Beyond.{first_unfit}
 use Rattle.record.proofs.first_unfit.Given as goal

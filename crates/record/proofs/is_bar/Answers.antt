@@ -1,10 +1,9 @@
 -- `record::is_bar` meets its contract. The invariant: it is among the bars from the next one on, or not at all.
 use mathlib.Core.Path.{◌≡◌, refl, sym, ◌∙◌}
-use Prim.Native.Nat.{◌-◌, ◌≤◌}
 use native.Mathlib.Omega.{arith}
 use native.Mathlib.Numerals.{add-one}
 use borrow.Author.Tests.{eq-eqb, ne_eqb}
-use lib.ListN.{length, drop}
+use lib.ListN.{length}
 use lib.Seq.{drop-cons}
 use Rattle.rules.specs.JobFile.{bars, among}
 use Rattle.record.proofs.is_bar.Goals as goal

@@ -1,5 +1,4 @@
 -- `record::is_within` meets its contract: a case for each kind of range.
-use borrow.Author.Rules.{rules}
 use borrow.Author.Tests.{le-leb, lt-leb, lt-ltb, le-ltb}
 use Rattle.rules.specs.JobFile.{within}
 use Rattle.record.specs.Measured.{measures_of}

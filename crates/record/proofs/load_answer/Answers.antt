@@ -1,5 +1,4 @@
 -- `record::load_answer` meets its contract.
-use borrow.Author.Rules.{rules}
 use Rattle.record.proofs.load_answer.Goals as goal
 
 pub returns : goal.returns

@@ -1,5 +1,4 @@
 -- `record::load_fits` meets its contract. Each answer follows from the tests that led to it.
-use borrow.Author.Rules.{rules}
 use borrow.Author.Tests.{le-leb, lt-leb}
 use Rattle.rules.specs.JobFile.{load_fits}
 use Rattle.record.proofs.load_fits.Goals as goal

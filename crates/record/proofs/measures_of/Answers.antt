@@ -1,5 +1,4 @@
 -- `record::measures_of` meets its contract.
-use borrow.Author.Rules.{rules}
 use Rattle.record.specs.Measured.{measures_of}
 use Rattle.record.proofs.measures_of.Goals as goal
 

@@ -1,6 +1,5 @@
 -- `record::reach_of` meets its contract.
 use native.Mathlib.Omega.{arith}
-use borrow.Author.Rules.{rules}
 use borrow.Author.Tests.{eq-eqb, ne_eqb}
 use Rattle.rules.specs.JobFile.{reach, is_down}
 use Rattle.record.proofs.reach_of.Goals as goal

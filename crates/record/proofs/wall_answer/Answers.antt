@@ -1,5 +1,4 @@
 -- `record::wall_answer` meets its contract. A wall fits where no field is found that doesn't.
-use borrow.Author.Rules.{rules}
 use borrow.Author.Tests.{eq-eqb, ne_eqb}
 use Rattle.rules.specs.JobFile.{wall_fits}
 use Rattle.rules.specs.Answered.{wall_answer}

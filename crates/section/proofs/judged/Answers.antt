@@ -1,7 +1,6 @@
 -- `section::judged` meets its contract: a section is worked where the test says that it can be.
 use mathlib.Core.Path.{◌≡◌, sym, ◌∙◌}
 use mathlib.Core.Bool.{true}
-use borrow.Author.Rules.{rules}
 use Rattle.rules.specs.ToeAndStem.{member_under}
 use Rattle.rules.specs.Beyond.{is_workable, verdict_of}
 use Rattle.rules.proofs.Sections.{Bounded, of_workable}

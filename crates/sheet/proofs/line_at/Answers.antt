@@ -1,5 +1,4 @@
 -- `sheet::line_at` meets its contract.
-use borrow.Author.Rules.{rules}
 use native.Mathlib.Omega.{arith}
 use Rattle.rules.proofs.AcceptedFile.{wall_count_lem}
 use Rattle.sheet.proofs.Sheets.{line_there}

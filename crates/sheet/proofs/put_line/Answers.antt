@@ -1,15 +1,13 @@
 -- `sheet::put_line` meets its contract. The invariant: so many numbers are put as were passed.
-use Prim.Native.Nat.{◌≤◌, ◌-◌}
-use mathlib.Core.Path.{◌≡◌, refl}
+use mathlib.Core.Path.{refl}
 use native.Mathlib.Omega.{arith}
-use lib.ListN.{length, length-set, get_or, take}
+use lib.ListN.{length-set, get_or}
 use lib.Seq.{take_all}
 use lib.IntN.{pos}
 use borrow.Author.Rules.{rules}
 use mir.Syntax.{w64}
 use mir.Val.{SFits}
 use mir.ValLaws.{to_z-of_z}
-use Rattle.rules.specs.SheetLine.{line_numbers}
 use Rattle.rules.specs.Beyond.{onto}
 use Rattle.rules.proofs.Putting.{onto_one_more}
 use Rattle.sheet.proofs.put_line.Goals as goal

@@ -1,15 +1,9 @@
 -- `sheet::put_line` meets its contract. The invariant: so many numbers are put as were passed.
-use Prim.Native.Nat.{◌≤◌, ◌-◌}
-use mathlib.Core.Path.{◌≡◌, refl}
-use native.Mathlib.Omega.{arith}
-use lib.ListN.{length, length-set, get_or, take}
-use lib.Seq.{take_all}
-use lib.IntN.{pos}
-use mir.Syntax.{w64}
-use mir.ValLaws.{to_z-of_z}
+use Prim.Native.Nat.{◌≤◌}
+use mathlib.Core.Path.{◌≡◌}
+use lib.ListN.{length, take}
 use Rattle.rules.specs.SheetLine.{line_numbers}
 use Rattle.rules.specs.Beyond.{onto}
-use Rattle.rules.proofs.Putting.{onto_one_more}
 use Rattle.sheet.proofs.put_line.Given as goal
 
 abbrev pub invariant-loop-k : goal.invariant-loop-k

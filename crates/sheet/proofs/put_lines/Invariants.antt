@@ -1,11 +1,9 @@
 -- `sheet::put_lines` meets its contract. The invariant: the lines of the walls that were passed are put.
-use Prim.Native.Nat.{◌≤◌, ◌+◌, ◌-◌, ◌*◌}
-use mathlib.Core.Path.{◌≡◌, sym}
-use native.Mathlib.Omega.{arith}
+use Prim.Native.Nat.{◌≤◌, ◌*◌}
 use lib.ListN.{length}
 use Rattle.rules.specs.SheetLine.{line_numbers, sheet}
-use Rattle.rules.proofs.Pieces.{Pieced, none_put, room_behind, one_further, all_put}
-use Rattle.sheet.proofs.Sheets.{Passing, none_passed, one_passed, next_wall, sheet_length, line_sixteen}
+use Rattle.rules.proofs.Pieces.{Pieced}
+use Rattle.sheet.proofs.Sheets.{Passing}
 use Rattle.sheet.proofs.put_lines.Given as goal
 
 abbrev pub invariant-loop-i : goal.invariant-loop-i

@@ -1,6 +1,5 @@
 -- `sheet::text` meets its contract.
 use native.Mathlib.Omega.{arith}
-use borrow.Author.Rules.{rules}
 use Rattle.rules.specs.SheetLine.{printed}
 use Rattle.rules.specs.Beyond.{line_room, sheet_room}
 use Rattle.rules.proofs.Fitting.{put_nothing, put_fitting, put_whole}

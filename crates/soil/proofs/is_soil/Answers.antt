@@ -1,5 +1,4 @@
 -- `soil::is_soil` meets its contract.
-use mathlib.Core.Path.{sym}
 use borrow.Author.Tests.{le-leb, lt-leb}
 use Rattle.soil.proofs.is_soil.Goals as goal
 

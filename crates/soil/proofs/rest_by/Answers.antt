@@ -1,6 +1,5 @@
 -- `soil::rest_by` meets its contract. A coefficient is at most 1, so it fits.
 use native.Mathlib.Omega.{arith}
-use borrow.Author.Rules.{rules}
 use mir.Facts.{Fits-le, Fits-lit}
 use Rattle.whole.proofs.Rounded.{up_least}
 use Rattle.rules.specs.Coefficients.{at_rest}

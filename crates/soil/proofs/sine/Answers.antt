@@ -1,5 +1,4 @@
 -- `soil::sine` meets its contract.
-use borrow.Author.Rules.{rules}
 use borrow.Author.Tests.{le-leb, lt-leb}
 use Rattle.rules.specs.Coefficients.{most_turned, sine_of}
 use Rattle.soil.proofs.sine.Goals as goal

@@ -1,7 +1,6 @@
 -- `text::coefficients_text` meets its contract.
 use mathlib.Core.Path.{◌≡◌, sym, ◌∙◌}
 use mathlib.Core.Bool.{true, false}
-use borrow.Author.Rules.{rules}
 use borrow.Author.Tests.{not-true, not-false}
 use Rattle.rules.specs.Answered.{is_worked}
 use Rattle.rules.specs.Coefficients.{coefficients_text}

@@ -1,6 +1,5 @@
 -- `text::line_text` meets its contract: a line's three parts are put one behind the other.
 use native.Mathlib.Omega.{arith}
-use borrow.Author.Rules.{rules}
 use Rattle.rules.specs.SheetLine.{line_text}
 use Rattle.rules.proofs.Fitting.{put_nothing, put_fitting}
 use Rattle.text.proofs.Owned.{as_is}

@@ -1,5 +1,4 @@
 -- `wall::worked` meets its contract.
-use borrow.Author.Rules.{rules}
 use Rattle.wall.specs.Working.{worked_over}
 use Rattle.wall.proofs.worked.Goals as goal
 

@@ -1,6 +1,5 @@
 -- `whole::near_root` meets its contract: the line is a guess within 2^28 + 1, and three steps make of it one within 1.
 use native.Mathlib.Omega.{arith}
-use borrow.Author.Rules.{rules}
 use Rattle.whole.proofs.Root.{first, second, third}
 use Rattle.whole.proofs.near_root.Goals as goal
 

@@ -1,8 +1,7 @@
 -- `whole::nearer_root` meets its contract: what n is by a guess of 32 bits is no more than 33 bits long.
 use native.Mathlib.Nat.{div-lt_iff_lt-mul}
 use native.Mathlib.Omega.{arith}
-use borrow.Author.Rules.{rules}
-use Prim.Native.Nat.{◌+◌, ◌*◌, ◌/◌, ◌^◌, ◌<◌}
+use Prim.Native.Nat.{◌+◌, ◌/◌, ◌^◌, ◌<◌}
 use Rattle.whole.proofs.nearer_root.Goals as goal
 
 pub overflow_add-result : goal.overflow_add-result

@@ -2,7 +2,6 @@
 -- Assumes nothing.
 use mathlib.Core.Path.{◌≡◌}
 use native.Mathlib.Omega.{arith}
-use borrow.Author.Rules.{rules}
 use Rattle.whole.specs.Rounding.{rounded_down}
 use Rattle.whole.proofs.Rounded.{down_by_zero}
 use Rattle.whole.proofs.rounded_down.Goals as goal

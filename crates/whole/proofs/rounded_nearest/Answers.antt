@@ -2,7 +2,6 @@
 -- Assumes nothing.
 use mathlib.Core.Path.{◌≡◌}
 use native.Mathlib.Omega.{arith}
-use borrow.Author.Rules.{rules}
 use Rattle.whole.proofs.Rounded.{parts, nearest_by_zero, nearest_over, nearest_under}
 use Rattle.whole.proofs.rounded_nearest.Goals as goal
 

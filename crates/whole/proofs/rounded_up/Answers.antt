@@ -2,7 +2,6 @@
 -- Assumes nothing.
 use mathlib.Core.Path.{◌≡◌}
 use native.Mathlib.Omega.{arith}
-use borrow.Author.Rules.{rules}
 use Rattle.whole.proofs.Rounded.{parts, up_by_zero, up_even, up_over}
 use Rattle.whole.proofs.rounded_up.Goals as goal
 

@@ -1,5 +1,5 @@
 -- `wide::difference` meets its contract: its digits and those of b are the columns of a sum that is a.
-use Rattle.std.proofs.Common.{sym, ◌∙◌, rules}
+use Rattle.std.proofs.Common.{sym, ◌∙◌}
 use Rattle.wide.specs.Value.{base, value}
 use Rattle.wide.proofs.Columns.{three, summed}
 use Rattle.wide.proofs.difference.Goals as goal

@@ -1,5 +1,5 @@
 -- `wide::divided` meets its contract. The invariant: what was taken off and what is left make up n. What is left falls.
-use Rattle.std.proofs.Common.{◌≡◌, ◌+◌, ◌*◌, ◌^◌, arith, rules}
+use Rattle.std.proofs.Common.{◌≡◌, ◌+◌, ◌*◌, ◌^◌}
 use Rattle.wide.specs.Value.{base, value}
 use Rattle.wide.proofs.Divisions.{more, fewer, less}
 use Rattle.wide.proofs.Tests.{yes, no}

@@ -1,8 +1,6 @@
 -- `wide::divided` meets its contract. The invariant: what was taken off and what is left make up n. What is left falls.
-use Rattle.std.proofs.Common.{◌≡◌, ◌+◌, ◌*◌, ◌^◌, arith, rules}
-use Rattle.wide.specs.Value.{base, value}
-use Rattle.wide.proofs.Divisions.{more, fewer, less}
-use Rattle.wide.proofs.Tests.{yes, no}
+use Rattle.std.proofs.Common.{◌≡◌, ◌+◌, ◌*◌}
+use Rattle.wide.specs.Value.{value}
 use Rattle.wide.proofs.divided.Given as goal
 
 abbrev pub invariant-loop-d : goal.invariant-loop-d

@@ -1,5 +1,5 @@
 -- `wide::is_long` meets its contract: the upper two digits tell whether the base times d goes into n.
-use Rattle.std.proofs.Common.{arith, rules}
+use Rattle.std.proofs.Common.{arith}
 use Rattle.wide.proofs.Digits.{over, under}
 use Rattle.wide.proofs.Tests.{alike}
 use Rattle.wide.proofs.is_long.Goals as goal

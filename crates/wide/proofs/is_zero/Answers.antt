@@ -1,5 +1,4 @@
 -- `wide::is_zero` meets its contract: only 0 is at most 0.
-use Rattle.std.proofs.Common.{rules}
 use Rattle.wide.proofs.is_zero.Goals as goal
 
 pub returns : goal.returns

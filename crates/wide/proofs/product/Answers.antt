@@ -1,5 +1,5 @@
 -- `wide::product` meets its contract: its three rows are the columns of the product.
-use Rattle.std.proofs.Common.{◌∙◌, rules}
+use Rattle.std.proofs.Common.{◌∙◌}
 use Rattle.wide.specs.Value.{value}
 use Rattle.wide.proofs.Columns.{three, scaled}
 use Rattle.wide.proofs.product.Goals as goal

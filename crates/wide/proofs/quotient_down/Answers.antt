@@ -1,5 +1,5 @@
 -- `wide::quotient_down` meets its contract: what the division finds is the quotient.
-use Rattle.std.proofs.Common.{◌≡◌, ◌^◌, ◌<◌, arith, rules}
+use Rattle.std.proofs.Common.{◌≡◌, ◌^◌, ◌<◌, arith}
 use Rattle.whole.proofs.Rounded.{down_by_zero, down_greatest, down_only}
 use Rattle.wide.specs.Value.{base, value}
 use Rattle.wide.proofs.Tests.{yes, no}

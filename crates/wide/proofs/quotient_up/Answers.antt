@@ -1,5 +1,5 @@
 -- `wide::quotient_up` meets its contract: what the division finds is enough where nothing is left, and else one more is.
-use Rattle.std.proofs.Common.{◌≡◌, ◌+◌, ◌^◌, ◌<◌, arith, rules}
+use Rattle.std.proofs.Common.{◌≡◌, ◌+◌, ◌^◌, ◌<◌, arith}
 use Rattle.whole.specs.Rounding.{rounded_up}
 use Rattle.whole.proofs.Rounded.{up_by_zero, up_only, down_greatest, down_nearest, nearest_up}
 use Rattle.wide.specs.Value.{base, value}

@@ -1,5 +1,5 @@
 -- `wide::row` meets its contract: the four products of halves make up the product, and each column has room for what is carried into it.
-use Rattle.std.proofs.Common.{◌*◌, ◌/◌, ◌%◌, ◌^◌, ◌≤◌, arith, rules}
+use Rattle.std.proofs.Common.{◌*◌, ◌/◌, ◌%◌, ◌^◌, ◌≤◌, arith}
 use Rattle.wide.specs.Value.{base}
 use Rattle.wide.proofs.Halves.{most, within, four}
 use Rattle.wide.proofs.row.Goals.{Start}

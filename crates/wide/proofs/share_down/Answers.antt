@@ -1,5 +1,5 @@
 -- `wide::share_down` meets its contract: the products are whole.
-use Rattle.std.proofs.Common.{arith, lit≤, rules}
+use Rattle.std.proofs.Common.{arith, lit≤}
 use Rattle.wide.proofs.Exact.{both, exactly}
 use Rattle.wide.proofs.share_down.Goals as goal
 

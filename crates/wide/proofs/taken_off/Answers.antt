@@ -1,5 +1,5 @@
 -- `wide::taken_off` meets its contract: the tests say that nothing of the product is left out, and that nothing is lent.
-use Rattle.std.proofs.Common.{mul_comm, arith, rules}
+use Rattle.std.proofs.Common.{mul_comm, arith}
 use Rattle.wide.specs.Value.{size, value}
 use Rattle.wide.proofs.Lending.{all}
 use Rattle.wide.proofs.taken_off.Goals as goal

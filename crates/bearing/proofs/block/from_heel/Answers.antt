@@ -1,6 +1,5 @@
 -- `bearing::block::from_heel` meets its contract: N is a whole number, since M6 is below 6Rl.
 use native.Mathlib.Omega.{arith}
-use borrow.Author.Rules.{rules}
 use Rattle.bearing.proofs.Bounds.{bounds}
 use Rattle.bearing.proofs.Cases.{heel_figures}
 use Rattle.bearing.proofs.block.from_heel.Goals as goal

@@ -1,6 +1,5 @@
 -- `bearing::block::from_toe` meets its contract: its figures are whole numbers.
 use native.Mathlib.Omega.{arith}
-use borrow.Author.Rules.{rules}
 use Rattle.bearing.proofs.Bounds.{bounds}
 use Rattle.rules.specs.Bearing.{of_kind}
 use Rattle.bearing.proofs.block.from_toe.Goals as goal

@@ -1,6 +1,5 @@
 -- `bearing::block::full` meets its contract: neither end lies below 0.
 use native.Mathlib.Omega.{arith}
-use borrow.Author.Rules.{rules}
 use Rattle.bearing.proofs.Bounds.{bounds}
 use Rattle.bearing.proofs.Cases.{full_figures}
 use Rattle.bearing.proofs.block.full.Goals as goal

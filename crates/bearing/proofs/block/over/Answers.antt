@@ -1,5 +1,4 @@
 -- `bearing::block::over` meets its contract: both numbers are below half of what 64 bits hold.
-use borrow.Author.Rules.{rules}
 use mir.Syntax.{w64}
 use mir.ValLaws.{to_z_pos}
 use Rattle.bearing.proofs.block.over.Goals as goal

@@ -1,7 +1,6 @@
 -- `bearing::block::pressed` meets its contract: the block is given or not by the greater of its pressures.
 use Prim.Native.Nat.{◌≤◌, ◌<◌}
 use native.Mathlib.Omega.{arith}
-use borrow.Author.Rules.{rules}
 use Rattle.rules.specs.Bearing.{greatest_peak}
 use Rattle.bearing.proofs.Reports.{is_given_lem, not_given}
 use Rattle.bearing.proofs.block.pressed.Goals as goal

@@ -1,6 +1,5 @@
 -- `forces::pushes::moist_push` meets its contract. The density and the height above the water are small by their ranges.
 use native.Mathlib.Omega.{arith}
-use borrow.Author.Rules.{rules}
 use Rattle.rules.specs.Forces.{moist_push}
 use Rattle.rules.proofs.Accepted.{wall_within}
 use Rattle.forces.proofs.pushes.moist_push.Goals as goal

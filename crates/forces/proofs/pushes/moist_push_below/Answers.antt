@@ -1,7 +1,6 @@
 -- `forces::pushes::moist_push_below` meets its contract. The density and the two heights are small by their ranges.
 use native.Mathlib.Nat.{mul_assoc}
 use native.Mathlib.Omega.{arith}
-use borrow.Author.Rules.{rules}
 use Rattle.rules.specs.Forces.{moist_push_below}
 use Rattle.rules.proofs.Accepted.{wall_within}
 use Rattle.forces.proofs.pushes.moist_push_below.Goals as goal

@@ -1,6 +1,5 @@
 -- `forces::pushes::push` meets its contract. Four small factors multiply, in pairs.
 use native.Mathlib.Omega.{arith}
-use borrow.Author.Rules.{rules}
 use Rattle.whole.proofs.Factors.{two_fit, pairs_fit}
 use Rattle.forces.proofs.pushes.push.Goals as goal
 

@@ -1,6 +1,5 @@
 -- `forces::pushes::saturated_push` meets its contract. Saturated fill is heavier than water.
 use native.Mathlib.Omega.{arith}
-use borrow.Author.Rules.{rules}
 use Rattle.rules.specs.Forces.{saturated_push}
 use Rattle.rules.proofs.Accepted.{wall_within}
 use Rattle.forces.proofs.pushes.saturated_push.Goals as goal

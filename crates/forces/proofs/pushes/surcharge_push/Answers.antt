@@ -1,6 +1,5 @@
 -- `forces::pushes::surcharge_push` meets its contract. Three small factors multiply.
 use native.Mathlib.Omega.{arith}
-use borrow.Author.Rules.{rules}
 use Rattle.rules.specs.Forces.{surcharge_push}
 use Rattle.rules.proofs.Accepted.{wall_within}
 use Rattle.whole.proofs.Factors.{two_fit, three_fit}

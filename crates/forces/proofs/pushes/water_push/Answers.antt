@@ -1,7 +1,6 @@
 -- `forces::pushes::water_push` meets its contract. A height no greater than that of a wall is squared.
 use native.Mathlib.Nat.{mul-le-mul}
 use native.Mathlib.Omega.{arith}
-use borrow.Author.Rules.{rules}
 use Rattle.rules.specs.Forces.{water_push}
 use Rattle.whole.proofs.Factors.{two_fit}
 use Rattle.forces.proofs.pushes.water_push.Goals as goal

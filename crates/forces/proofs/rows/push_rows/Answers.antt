@@ -1,7 +1,6 @@
 -- `forces::rows::push_rows` meets its contract. What a row requires of a push is told by the sizes of the pushes.
 use Prim.Native.Nat.{◌*◌, ◌≤◌}
 use native.Mathlib.Omega.{arith}
-use borrow.Author.Rules.{rules}
 use Rattle.rules.specs.Forces.{push_rows}
 use Rattle.rules.proofs.Accepted.{wall_within}
 use Rattle.rules.proofs.Sizes.{Pushed, pushed}

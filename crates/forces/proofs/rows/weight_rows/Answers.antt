@@ -1,6 +1,5 @@
 -- `forces::rows::weight_rows` meets its contract. The weights and the distances are within what a row takes.
 use native.Mathlib.Omega.{arith}
-use borrow.Author.Rules.{rules}
 use Rattle.rules.specs.JobFile.{base_length}
 use Rattle.rules.specs.Forces.{weight_rows}
 use Rattle.rules.proofs.Accepted.{longest, Lies, WallWithin, wall_within, base_length_lem}

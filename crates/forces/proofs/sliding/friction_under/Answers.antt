@@ -1,7 +1,6 @@
 -- `forces::sliding::friction_under` meets its contract. What lasts is a signed number, which is read back from its bits.
 use mathlib.Core.Path.{◌≡◌, ap, ◌∙◌}
 use native.Mathlib.Omega.{arith}
-use borrow.Author.Rules.{rules}
 use mir.Facts.{to_z-of_z}
 use Rattle.whole.specs.Parts.{above_zero}
 use Rattle.rules.specs.Forces.{friction_under}

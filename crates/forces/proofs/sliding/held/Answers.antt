@@ -1,7 +1,6 @@
 -- `forces::sliding::held` meets its contract. A push is taken by its part above 0; whether the wall is propped is told by its kind.
 use mathlib.Core.Path.{◌≡◌, ap, ◌∙◌}
 use native.Mathlib.Omega.{arith}
-use borrow.Author.Rules.{rules}
 use borrow.Author.Tests.{eq-eqb, ne_eqb}
 use mir.Facts.{to_z-of_z}
 use Rattle.whole.specs.Parts.{above_zero}

@@ -1,6 +1,5 @@
 -- `forces::sliding::passive_force` meets its contract. Four small factors multiply, in pairs.
 use native.Mathlib.Omega.{arith}
-use borrow.Author.Rules.{rules}
 use Rattle.rules.specs.Forces.{passive, passive_depth}
 use Rattle.rules.proofs.Accepted.{WallWithin, wall_within}
 use Rattle.whole.proofs.Factors.{two_fit, pairs_fit}

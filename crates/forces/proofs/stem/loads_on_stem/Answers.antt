@@ -1,11 +1,10 @@
 -- `forces::stem::loads_on_stem` meets its contract. The invariant: the loads passed are stored as the stem has them.
 use mathlib.Core.Path.{refl, sym, ◌∙◌}
-use mathlib.Core.List.{[], map}
-use Prim.Native.Nat.{◌-◌}
+use mathlib.Core.List.{[]}
 use native.Mathlib.Omega.{arith}
 use lib.ListN.{length-map, get_or-map}
-use Rattle.whole.proofs.Indexed.{Filled, none_filled, one_more, all_filled}
-use Rattle.rules.specs.JobFile.{most_loads_on_wall, base_thickness}
+use Rattle.whole.proofs.Indexed.{none_filled, one_more, all_filled}
+use Rattle.rules.specs.JobFile.{base_thickness}
 use Rattle.forces.specs.Tables.{on_stem}
 use Rattle.forces.proofs.stem.loads_on_stem.Goals as goal
 

@@ -3,7 +3,6 @@ use mathlib.Core.Path.{◌≡◌, refl, ◌∙◌}
 use mathlib.Core.List.{List}
 use Prim.Native.Nat.{ℕ, ◌<◌, ◌^◌}
 use native.Mathlib.Omega.{arith}
-use borrow.Author.Rules.{rules}
 use lib.IntN.{ℤ}
 use lib.Signed.{mag}
 use mir.Syntax.{w64}
@@ -12,9 +11,8 @@ use Rattle.rules.specs.Forces.{horizontal, moment, column_sum, tenths}
 use Rattle.rules.specs.ToeAndStem.{stem_table, stem_action}
 use Rattle.rules.proofs.Examined.{fit}
 use Rattle.forces.specs.Sorts.{weights_of, weighted_sum, Small}
-use Rattle.forces.specs.Tables.{stem_in_place}
 use Rattle.forces.proofs.OnStem.{stem_summed}
-use Rattle.forces.proofs.Summed.{Summable, stem_summable, small, sum_is, light, read_back}
+use Rattle.forces.proofs.Summed.{stem_summable, small, sum_is, light, read_back}
 use Rattle.forces.proofs.stem.stem_action.Goals.{After-table_of_stem-table}
 use Rattle.forces.proofs.stem.stem_action.Goals as goal
 

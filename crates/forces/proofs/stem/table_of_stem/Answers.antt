@@ -1,6 +1,5 @@
 -- `forces::stem::table_of_stem` meets its contract. The water above the base's top stands within the stem's height, and the loads on the stem are small.
 use native.Mathlib.Omega.{arith}
-use borrow.Author.Rules.{rules}
 use Rattle.rules.specs.Forces.{push_rows}
 use Rattle.rules.proofs.Accepted.{wall_within}
 use Rattle.rules.proofs.Examined.{Fit, fit}

@@ -1,7 +1,7 @@
 -- `forces::sums::column_sum` meets its contract. The invariant: the sum is that of the rows passed.
-use mathlib.Core.Path.{◌≡◌, refl, ap, ◌∙◌}
+use mathlib.Core.Path.{◌≡◌, refl, ◌∙◌}
 use mathlib.Core.List.{List, []}
-use Prim.Native.Nat.{ℕ, ◌*◌, ◌-◌, ◌≤◌}
+use Prim.Native.Nat.{ℕ, ◌*◌, ◌≤◌}
 use native.Mathlib.Omega.{arith}
 use native.Mathlib.Numerals.{add-one}
 use lib.IntN.{ℤ, pos, nat_abs, ◌+ℤ◌, ◌*ℤ◌}
@@ -13,7 +13,7 @@ use Rattle.whole.specs.Sum.{sum_to}
 use Rattle.rules.proofs.Sizes.{greatest_cell}
 use Rattle.whole.proofs.Integer.{abs_add, abs_weighted, fits_abs, back}
 use Rattle.forces.specs.Tables.{components}
-use Rattle.forces.specs.Sorts.{weighted, weighted_sum, Small, Light}
+use Rattle.forces.specs.Sorts.{weighted, weighted_sum}
 use Rattle.forces.proofs.Summed.{sum_within}
 use Rattle.forces.proofs.sums.column_sum.Invariants.{Passed}
 use Rattle.forces.proofs.sums.column_sum.Goals as goal

@@ -1,5 +1,4 @@
 -- `forces::sums::sort_by_way` meets its contract.
-use borrow.Author.Rules.{rules}
 use borrow.Author.Tests.{eq-eqb, ne_eqb}
 use Rattle.rules.specs.JobFile.{is_down}
 use Rattle.forces.proofs.sums.sort_by_way.Goals as goal

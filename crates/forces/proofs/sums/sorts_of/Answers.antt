@@ -1,12 +1,9 @@
 -- `forces::sums::sorts_of` meets its contract. The invariant: the sorts of the loads passed are stored, their dead and their live parts'.
 use mathlib.Core.Path.{refl}
-use mathlib.Core.List.{[], map}
-use Prim.Native.Nat.{◌-◌}
+use mathlib.Core.List.{[]}
 use native.Mathlib.Omega.{arith}
-use Rattle.rules.specs.JobFile.{most_loads_on_wall}
-use Rattle.forces.specs.Tables.{components, own_rows}
-use Rattle.forces.proofs.Runs.{TwoRuns, none_made, next_made, all_stored}
-use Rattle.forces.specs.Sorts.{first_sorts, place_by_way, sorts_of}
+use Rattle.forces.proofs.Runs.{none_made, next_made, all_stored}
+use Rattle.forces.specs.Sorts.{place_by_way, sorts_of}
 use Rattle.forces.proofs.sums.sorts_of.Goals as goal
 
 pub loop-i-init : goal.loop-i-init

@@ -1,6 +1,5 @@
 -- `forces::sums::totals_by` meets its contract.
 use native.Mathlib.Omega.{arith}
-use borrow.Author.Rules.{rules}
 use Rattle.forces.specs.Sorts.{totals_by}
 use Rattle.forces.proofs.Summed.{read_back}
 use Rattle.forces.proofs.sums.totals_by.Goals as goal

@@ -1,12 +1,9 @@
 -- `forces::table::filled` meets its contract. The invariant: the rows of the loads passed are stored, their dead and their live parts.
-use mathlib.Core.Path.{refl}
-use mathlib.Core.List.{[], map}
-use Prim.Native.Nat.{◌-◌}
-use native.Mathlib.Omega.{arith}
+use mathlib.Core.List.{map}
 use lib.ListN.{take}
 use Rattle.rules.specs.JobFile.{most_loads_on_wall}
-use Rattle.forces.specs.Tables.{components, own_rows, part_row, rows_in}
-use Rattle.forces.proofs.Runs.{TwoRuns, none_made, next_made, all_stored}
+use Rattle.forces.specs.Tables.{components, own_rows, part_row}
+use Rattle.forces.proofs.Runs.{TwoRuns}
 use Rattle.forces.proofs.table.filled.Given as goal
 
 abbrev pub invariant-loop-i : goal.invariant-loop-i

@@ -1,6 +1,5 @@
 -- `forces::table::of_wall` meets its contract. What is put in place is the rules' table.
 use native.Mathlib.Omega.{arith}
-use borrow.Author.Rules.{rules}
 use Rattle.rules.specs.Forces.{weight_rows, push_rows, table}
 use Rattle.rules.proofs.Accepted.{wall_within, wall_height_lem}
 use Rattle.rules.proofs.Examined.{Fit, fit}

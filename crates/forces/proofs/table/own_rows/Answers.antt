@@ -1,11 +1,8 @@
 -- `forces::table::own_rows` meets its contract. The invariant: behind the weights as many pushes are stored as turns are made.
 use mathlib.Core.Path.{refl}
 use mathlib.Core.List.{[]}
-use Prim.Native.Nat.{◌-◌}
 use native.Mathlib.Omega.{arith}
-use lib.ListN.{take}
-use Rattle.forces.specs.Tables.{components, weights_count}
-use Rattle.forces.proofs.Runs.{OneRun, front_stands, next_one, one_stored}
+use Rattle.forces.proofs.Runs.{front_stands, next_one, one_stored}
 use Rattle.forces.proofs.table.own_rows.Goals as goal
 
 pub loop-i-init : goal.loop-i-init

@@ -1,11 +1,7 @@
 -- `forces::table::own_rows` meets its contract. The invariant: behind the weights as many pushes are stored as turns are made.
-use mathlib.Core.Path.{refl}
-use mathlib.Core.List.{[]}
-use Prim.Native.Nat.{◌-◌}
-use native.Mathlib.Omega.{arith}
 use lib.ListN.{take}
 use Rattle.forces.specs.Tables.{components, weights_count}
-use Rattle.forces.proofs.Runs.{OneRun, front_stands, next_one, one_stored}
+use Rattle.forces.proofs.Runs.{OneRun}
 use Rattle.forces.proofs.table.own_rows.Given as goal
 
 abbrev pub invariant-loop-i : goal.invariant-loop-i

@@ -1,6 +1,5 @@
 -- `forces::weights::base_weight` meets its contract. Its sides and density are small by their ranges.
 use native.Mathlib.Omega.{arith}
-use borrow.Author.Rules.{rules}
 use Rattle.rules.specs.Forces.{base_weight}
 use Rattle.rules.proofs.Accepted.{wall_within, base_length_lem}
 use Rattle.forces.proofs.weights.base_weight.Goals as goal

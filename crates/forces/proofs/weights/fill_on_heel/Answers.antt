@@ -1,7 +1,6 @@
 -- `forces::weights::fill_on_heel` meets its contract. No weight of a wall that fits is great.
 use Prim.Native.Nat.{◌+◌, ◌≤◌}
 use native.Mathlib.Omega.{arith}
-use borrow.Author.Rules.{rules}
 use Rattle.rules.specs.ToeAndStem.{fill_on_heel}
 use Rattle.rules.proofs.Accepted.{wall_within}
 use Rattle.rules.proofs.Sizes.{weighed}

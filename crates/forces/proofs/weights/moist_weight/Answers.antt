@@ -1,6 +1,5 @@
 -- `forces::weights::moist_weight` meets its contract. Its sides and density are small by their ranges.
 use native.Mathlib.Omega.{arith}
-use borrow.Author.Rules.{rules}
 use Rattle.rules.specs.Forces.{moist_weight}
 use Rattle.rules.proofs.Accepted.{wall_within}
 use Rattle.forces.proofs.weights.moist_weight.Goals as goal

@@ -1,6 +1,5 @@
 -- `forces::weights::saturated_height` meets its contract. Base and downstand are taken off together.
 use native.Mathlib.Omega.{arith}
-use borrow.Author.Rules.{rules}
 use Rattle.rules.specs.Forces.{saturated_height}
 use Rattle.forces.proofs.weights.saturated_height.Goals as goal
 

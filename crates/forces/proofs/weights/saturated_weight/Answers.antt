@@ -1,6 +1,5 @@
 -- `forces::weights::saturated_weight` meets its contract. Its sides and density are small by their ranges.
 use native.Mathlib.Omega.{arith}
-use borrow.Author.Rules.{rules}
 use Rattle.rules.specs.Forces.{saturated_weight}
 use Rattle.rules.proofs.Accepted.{wall_within}
 use Rattle.rules.proofs.Sizes.{stem_face_lem}

@@ -1,6 +1,5 @@
 -- `forces::weights::slab_weight` meets its contract. Three small factors multiply.
 use native.Mathlib.Omega.{arith}
-use borrow.Author.Rules.{rules}
 use Rattle.whole.proofs.Factors.{two_fit, three_fit}
 use Rattle.forces.proofs.weights.slab_weight.Goals as goal
 

@@ -1,6 +1,5 @@
 -- `forces::weights::surcharge_weight` meets its contract. Two small factors multiply.
 use native.Mathlib.Omega.{arith}
-use borrow.Author.Rules.{rules}
 use Rattle.rules.specs.Forces.{surcharge_weight}
 use Rattle.rules.proofs.Accepted.{wall_within}
 use Rattle.whole.proofs.Factors.{two_fit}

@@ -1,9 +1,6 @@
 -- `job::bytes::read_u32s` meets its contract. The invariant: the numbers passed are read.
 use mathlib.Core.Path.{refl, sym, ◌∙◌}
-use Prim.Native.Nat.{◌-◌}
-use native.Mathlib.Omega.{arith}
-use Rattle.whole.proofs.Indexed.{Filled, none_filled, one_more, all_filled}
-use Rattle.rules.specs.JobFile.{u32s_at}
+use Rattle.whole.proofs.Indexed.{none_filled, one_more, all_filled}
 use Rattle.rules.proofs.Bytes.{u32s_count}
 use Rattle.job.proofs.Numbers.{number_at}
 use Rattle.job.proofs.bytes.read_u32s.Goals as goal

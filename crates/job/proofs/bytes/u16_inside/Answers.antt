@@ -1,5 +1,4 @@
 -- `job::bytes::u16_inside` meets its contract.
-use borrow.Author.Rules.{rules}
 use native.Mathlib.Omega.{arith}
 use Rattle.rules.specs.JobFile.{u16_at}
 use Rattle.job.proofs.bytes.u16_inside.Goals as goal

@@ -1,5 +1,4 @@
 -- `job::records::entry_at` meets its contract.
-use borrow.Author.Rules.{rules}
 use Rattle.rules.specs.JobFile.{entries_at, entry_at}
 use Rattle.job.proofs.records.entry_at.Goals as goal
 

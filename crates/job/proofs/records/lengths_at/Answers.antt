@@ -3,7 +3,6 @@ use mathlib.Core.Path.{◌≡◌}
 use mathlib.Core.List.{◌∷◌, ◌++◌}
 use Prim.Native.Nat.{ℕ, ◌+◌, ◌-◌}
 use native.Mathlib.Nat.{add_assoc}
-use borrow.Author.Rules.{rules}
 use lib.ListN.{replicate}
 use Rattle.rules.specs.JobFile.{File, wall_fields, u32s_at, wall_at}
 use Rattle.job.specs.Lengths.{lengths_of}

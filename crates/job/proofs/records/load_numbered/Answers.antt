@@ -1,7 +1,6 @@
 -- `job::records::load_numbered` meets its contract. A load's number is one more than its index.
 use mathlib.Core.Path.{sym, ap, ◌∙◌}
 use native.Mathlib.Omega.{arith}
-use borrow.Author.Rules.{rules}
 use Rattle.rules.specs.JobFile.{load_of}
 use Rattle.job.specs.Places.{load_numbered}
 use Rattle.job.proofs.PlacesOfLoads.{load_at}

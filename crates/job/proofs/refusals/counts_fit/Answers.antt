@@ -1,5 +1,4 @@
 -- `job::refusals::counts_fit` meets its contract.
-use borrow.Author.Rules.{rules}
 use Rattle.rules.specs.Answered.{counts_fit}
 use Rattle.job.proofs.refusals.counts_fit.Goals as goal
 

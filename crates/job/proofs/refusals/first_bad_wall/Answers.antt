@@ -1,9 +1,6 @@
 -- `job::refusals::first_bad_wall` meets its contract. The invariant: the walls before the index were passed.
-use Prim.Native.Nat.{◌-◌}
-use native.Mathlib.Omega.{arith}
-use Rattle.rules.specs.JobFile.{wall_at, walls}
-use Rattle.rules.specs.Answered.{first_bad_wall}
-use Rattle.job.proofs.Judging.{Passed, all_passed, refused, one_passed, wall_answer_at, no_wall_passed}
+use Rattle.rules.specs.JobFile.{walls}
+use Rattle.job.proofs.Judging.{all_passed, refused, one_passed, no_wall_passed}
 use Rattle.job.proofs.refusals.first_bad_wall.Goals as goal
 
 pub loop-i-init : goal.loop-i-init

@@ -1,5 +1,4 @@
 -- `job::refusals::length_fits` meets its contract.
-use borrow.Author.Rules.{rules}
 use Rattle.rules.specs.JobFile.{entries_at}
 use Rattle.rules.specs.Answered.{length_fits}
 use Rattle.job.proofs.refusals.length_fits.Goals as goal

@@ -1,5 +1,4 @@
 -- `job::refusals::offsets_fit` meets its contract.
-use borrow.Author.Rules.{rules}
 use Rattle.rules.specs.JobFile.{entries_at}
 use Rattle.rules.specs.Answered.{offsets_fit}
 use Rattle.job.proofs.refusals.offsets_fit.Goals as goal

@@ -1,5 +1,4 @@
 -- `section::of_wall::heel_section` meets its contract.
-use borrow.Author.Rules.{rules}
 use Rattle.section.proofs.of_wall.heel_section.Goals as goal
 
 pub returns : goal.returns

@@ -1,5 +1,4 @@
 -- `section::points::figures` meets its contract: what its callees ensure of each figure, computed.
-use borrow.Author.Rules.{rules}
 use Rattle.whole.specs.Rounding.{rounded_up, rounded_down}
 use Rattle.rules.specs.ToeAndStem.{bears, greatest, lever_arm, needed_area, besides, bar_area, provided_area}
 use Rattle.section.proofs.points.figures.Goals as goal

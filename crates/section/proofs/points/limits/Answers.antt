@@ -1,5 +1,4 @@
 -- `section::points::limits` meets its contract, by what `needs_compression` ensures.
-use borrow.Author.Rules.{rules}
 use Rattle.rules.specs.ToeAndStem.{needs_compression}
 use Rattle.section.proofs.points.limits.Goals as goal
 

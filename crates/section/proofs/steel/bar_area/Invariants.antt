@@ -1,16 +1,7 @@
 -- `section::steel::bar_area` meets its contract. The invariant: the bar's area stands beside one of the bars from the next on, or nowhere.
-use mathlib.Core.Path.{◌≡◌, refl, sym, ◌∙◌}
-use mathlib.Core.Bool.{cond}
-use Prim.Native.Nat.{ℕ, suc, ◌-◌, ◌≤◌, ◌<◌}
-use native.Mathlib.Omega.{arith}
-use native.Mathlib.Numerals.{add-one}
-use borrow.Author.Tests.{eq-eqb, ne_eqb}
-use lib.Dec.{eqb}
-use lib.ListN.{length, drop, get_or}
-use lib.Seq.{drop-cons}
-use mir.Syntax.{w64}
-use mir.Val.{Fits}
-use Rattle.whole.proofs.Lists.{all_at}
+use mathlib.Core.Path.{◌≡◌}
+use Prim.Native.Nat.{◌≤◌}
+use lib.ListN.{length, drop}
 use Rattle.rules.specs.JobFile.{bars}
 use Rattle.rules.specs.ToeAndStem.{bar_areas, besides, bar_area}
 use Rattle.section.proofs.steel.bar_area.Given as goal

@@ -1,7 +1,6 @@
 -- `section::steel::lever_arm` meets its contract: it is 0.95 D where M is borne at that, and what the root gives where it isn't.
 use mathlib.Core.Path.{sym, ◌∙◌}
 use native.Mathlib.Omega.{arith}
-use borrow.Author.Rules.{rules}
 use Rattle.whole.proofs.Factors.{three_fit, four_fit}
 use Rattle.rules.proofs.ByRoot.{at_limit, below_limit}
 use Rattle.section.proofs.steel.lever_arm.Goals as goal

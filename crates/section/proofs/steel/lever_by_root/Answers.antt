@@ -3,7 +3,6 @@ use mathlib.Core.Path.{sym}
 use Prim.Native.Nat.{◌*◌, ◌/◌, ◌≤◌}
 use native.Mathlib.Nat.{mul-le-mul}
 use native.Mathlib.Omega.{arith}
-use borrow.Author.Rules.{rules}
 use Rattle.whole.specs.Rounding.{rounded_down}
 use Rattle.whole.proofs.Factors.{two_fit}
 use Rattle.rules.proofs.ByRoot.{impossible, within, root_most, upper}

@@ -1,7 +1,6 @@
 -- `section::steel::steel_of` meets its contract: each of its figures is the rules', of the section's own D.
 use mathlib.Core.Path.{◌≡◌, sym, ◌∙◌}
 use native.Mathlib.Omega.{arith}
-use borrow.Author.Rules.{rules}
 use Rattle.rules.specs.ToeAndStem.{twice_depth, needs_compression, required_area, steel_fails}
 use Rattle.rules.proofs.Sections.{moment_most}
 use Rattle.section.proofs.steel.steel_of.Goals.{After-needs_compression}

@@ -1,16 +1,14 @@
 -- `sheet::drawn::drawn_at` meets its contract: what bears the wall under the rows that are read bears it under its own loads.
 use mathlib.Core.Path.{◌≡◌, refl, sym}
-use mathlib.Core.List.{List}
 use Prim.Native.Nat.{suc}
 use native.Mathlib.Omega.{arith}
-use borrow.Author.Rules.{rules}
-use Rattle.rules.specs.JobFile.{Wall, Load, wall_at, entries, loads_on}
+use Rattle.rules.specs.JobFile.{wall_at, entries, loads_on}
 use Rattle.rules.specs.Bearing.{pressed_by}
 use Rattle.rules.specs.Beyond.{worked_forces, worked_bearing}
 use Rattle.rules.proofs.AcceptedFile.{wall_count_lem}
 use Rattle.rules.proofs.Doubles.{divided, shaped}
 use Rattle.rules.proofs.Drawings.{drawn_is}
-use Rattle.rules.proofs.Examined.{Fit, fit, wall_of_file}
+use Rattle.rules.proofs.Examined.{fit, wall_of_file}
 use Rattle.sheet.proofs.Sheets.{borne_by}
 use Rattle.sheet.proofs.drawn.drawn_at.Goals.{After-blocks-borne}
 use Rattle.sheet.proofs.drawn.drawn_at.Goals as goal

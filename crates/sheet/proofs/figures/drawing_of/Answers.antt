@@ -1,6 +1,5 @@
 -- `sheet::figures::drawing_of` meets its contract: each number that is divided is read back as it is.
 use native.Mathlib.Omega.{arith}
-use borrow.Author.Rules.{rules}
 use lib.IntN.{pos, ◌*ℤ◌}
 use Rattle.whole.proofs.Integer.{fits_abs, back}
 use Rattle.rules.specs.Drawing.{drawing_of}

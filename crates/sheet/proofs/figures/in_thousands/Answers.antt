@@ -1,6 +1,5 @@
 -- `sheet::figures::in_thousands` meets its contract.
 use native.Mathlib.Omega.{arith}
-use borrow.Author.Rules.{rules}
 use Rattle.whole.proofs.Integer.{back}
 use Rattle.sheet.proofs.figures.in_thousands.Goals as goal
 

@@ -1,7 +1,6 @@
 -- `sheet::figures::shape_of` meets its contract: a case for each kind of block, in which what is divided is read back as it is.
 use mathlib.Core.Path.{◌≡◌}
 use native.Mathlib.Omega.{arith}
-use borrow.Author.Rules.{rules}
 use lib.IntN.{pos}
 use mir.Syntax.{w64}
 use mir.Val.{to_z, of_z}

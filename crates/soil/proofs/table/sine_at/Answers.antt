@@ -1,6 +1,5 @@
 -- `soil::table::sine_at` meets its contract: the table in the code is the one that is worked from 0.0 to 90.0 degrees, every digit of it.
 use mathlib.Core.Path.{refl, sym}
-use borrow.Author.Rules.{rules}
 use Rattle.whole.specs.Rounding.{rounded_up, rounded_down, rounded_nearest}
 use Rattle.rules.specs.Coefficients.{turned_by}
 use Rattle.soil.proofs.Sines.{bounds_from, angles, in_table, at_most_one}

@@ -1,5 +1,4 @@
 -- `text::coefficients::put_named` meets its contract: names and numbers are put one behind the other.
-use borrow.Author.Rules.{rules}
 use native.Mathlib.Omega.{arith}
 use Rattle.rules.specs.Coefficients.{named_text}
 use Rattle.text.proofs.Placing.{then, at_start}

@@ -1,6 +1,5 @@
 -- `text::figures::put_drawn` meets its contract: the name, the figures behind it, and the end of the line.
 use mathlib.Core.List.{[], ◌∷◌}
-use borrow.Author.Rules.{rules}
 use native.Mathlib.Omega.{arith}
 use Rattle.rules.specs.Beyond.{shape_figures, figures, drawn_text}
 use Rattle.text.proofs.Drawings.{then_figures}

@@ -1,6 +1,5 @@
 -- `text::figures::put_figure` meets its contract: the digits are put behind a space.
 use mathlib.Core.List.{append-nil}
-use borrow.Author.Rules.{rules}
 use Rattle.rules.specs.Beyond.{figure_text, figures_text}
 use Rattle.text.proofs.Placing.{then}
 use Rattle.text.proofs.figures.put_figure.Goals as goal

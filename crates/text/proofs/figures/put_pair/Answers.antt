@@ -1,6 +1,5 @@
 -- `text::figures::put_pair` meets its contract.
 use mathlib.Core.List.{[], ◌∷◌}
-use borrow.Author.Rules.{rules}
 use Rattle.text.proofs.Drawings.{then_figures}
 use Rattle.text.proofs.figures.put_pair.Goals as goal
 

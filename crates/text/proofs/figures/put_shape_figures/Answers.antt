@@ -1,5 +1,4 @@
 -- `text::figures::put_shape_figures` meets its contract.
-use borrow.Author.Rules.{rules}
 use Rattle.rules.specs.Beyond.{shape_figures, figures_text}
 use Rattle.text.proofs.Placing.{nothing}
 use Rattle.text.proofs.figures.put_shape_figures.Goals as goal

@@ -1,5 +1,4 @@
 -- `text::letters::hex_digit` meets its contract.
-use borrow.Author.Rules.{rules}
 use borrow.Author.Tests.{lt-ltb, le-ltb}
 use Rattle.text.proofs.letters.hex_digit.Goals as goal
 

@@ -1,12 +1,11 @@
 -- `text::letters::put_word` meets its contract. The invariant: the letters passed are put.
 use mathlib.Core.Path.{◌≡◌, refl}
 use mathlib.Core.List.{[], ◌∷◌, ◌++◌}
-use Prim.Native.Nat.{◌+◌, ◌-◌, ◌≤◌}
+use Prim.Native.Nat.{◌+◌}
 use native.Mathlib.Numerals.{add-one}
 use native.Mathlib.Omega.{arith}
-use lib.ListN.{length, take, get_or}
+use lib.ListN.{take, get_or}
 use lib.Seq.{take-suc, take_all}
-use Rattle.text.specs.Placed.{PutAt}
 use Rattle.text.proofs.Placing.{nothing, then, within}
 use Rattle.text.proofs.letters.put_word.Goals as goal
 

@@ -1,5 +1,4 @@
 -- `text::numbers::put_failures` meets its contract: the digits are put behind the space.
-use borrow.Author.Rules.{rules}
 use mir.Syntax.{w64}
 use mir.ValLaws.{to_z-of_z}
 use Rattle.text.proofs.Placing.{then}

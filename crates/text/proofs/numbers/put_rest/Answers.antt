@@ -1,15 +1,14 @@
 -- `text::numbers::put_rest` meets its contract. The invariant: what is put and what is left make up the line's rest.
-use mathlib.Core.Path.{◌≡◌, refl}
+use mathlib.Core.Path.{refl}
 use mathlib.Core.List.{List, [], ◌∷◌, ◌++◌, append_assoc}
 use Prim.Native.Nat.{ℕ, ◌+◌, ◌-◌, ◌*◌, ◌≤◌, ◌<◌}
 use Prim.Native.Char.{code}
 use native.Mathlib.Numerals.{add-one}
 use native.Mathlib.Omega.{arith}
-use borrow.Author.Rules.{rules}
 use lib.IntN.{ℤ, pos}
 use lib.ListN.{length, get_or, drop, drop_of_length-le}
 use lib.Seq.{drop-cons}
-use Rattle.rules.specs.SheetLine.{line_numbers, line_rest}
+use Rattle.rules.specs.SheetLine.{line_rest}
 use Rattle.rules.specs.Beyond.{number_room}
 use Rattle.text.specs.Placed.{PutAt, spaced_number}
 use Rattle.text.proofs.Owned.{as_is}

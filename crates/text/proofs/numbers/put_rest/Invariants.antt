@@ -1,19 +1,12 @@
 -- `text::numbers::put_rest` meets its contract. The invariant: what is put and what is left make up the line's rest.
-use mathlib.Core.Path.{◌≡◌, refl}
-use mathlib.Core.List.{List, [], ◌∷◌, ◌++◌, append_assoc}
-use Prim.Native.Nat.{ℕ, ◌+◌, ◌-◌, ◌*◌, ◌≤◌, ◌<◌}
-use Prim.Native.Char.{code}
-use native.Mathlib.Numerals.{add-one}
-use native.Mathlib.Omega.{arith}
-use borrow.Author.Rules.{rules}
-use lib.IntN.{ℤ, pos}
-use lib.ListN.{length, get_or, drop, drop_of_length-le}
-use lib.Seq.{drop-cons}
+use mathlib.Core.Path.{◌≡◌}
+use mathlib.Core.List.{List, ◌++◌}
+use Prim.Native.Nat.{ℕ, ◌-◌, ◌*◌, ◌≤◌}
+use lib.IntN.{ℤ}
+use lib.ListN.{length, drop}
 use Rattle.rules.specs.SheetLine.{line_numbers, line_rest}
 use Rattle.rules.specs.Beyond.{number_room}
-use Rattle.text.specs.Placed.{PutAt, spaced_number}
-use Rattle.text.proofs.Owned.{as_is}
-use Rattle.text.proofs.Placing.{nothing, then, within}
+use Rattle.text.specs.Placed.{PutAt}
 use Rattle.text.proofs.numbers.put_rest.Given as goal
 
 -- the numbers before an index are put

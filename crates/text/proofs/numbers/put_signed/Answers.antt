@@ -1,6 +1,5 @@
 -- `text::numbers::put_signed` meets its contract: a number below 0 is its sign, and then its opposite.
 use native.Mathlib.Omega.{arith}
-use borrow.Author.Rules.{rules}
 use mir.Syntax.{w64}
 use mir.ValLaws.{to_z-of_z}
 use Rattle.whole.proofs.Integer.{le_z_true, le_z_false}

@@ -1,6 +1,5 @@
 -- `wall::heel::bearing_under` meets its contract: a case for each kind of block.
 use mathlib.Core.Path.{sym, ap, ◌∙◌}
-use borrow.Author.Rules.{rules}
 use Rattle.rules.specs.ToeAndStem.{heel_bearing}
 use Rattle.wall.proofs.UnderHeel.{action_is, full_is, full_ends, toe_is, heel_is, reaches, none_bears}
 use Rattle.wall.proofs.heel.bearing_under.Goals as goal

@@ -3,7 +3,6 @@ use mathlib.Core.Path.{◌∙◌}
 use Prim.Native.Nat.{◌+◌, ◌-◌, ◌*◌, ◌≤◌}
 use native.Mathlib.Nat.{mul-le-mul}
 use native.Mathlib.Omega.{arith}
-use borrow.Author.Rules.{rules}
 use Rattle.whole.proofs.Rounded.{down_twice}
 use Rattle.rules.proofs.Accepted.{longest}
 use Rattle.wall.proofs.UnderHeel.{steepest, line_most, share_most}

@@ -1,5 +1,4 @@
 -- `wall::heel::heel_action` meets its contract: weight less bearing, in the shear and in the moment.
-use borrow.Author.Rules.{rules}
 use Rattle.rules.specs.ToeAndStem.{heel_action}
 use Rattle.wall.proofs.heel.heel_action.Goals as goal
 

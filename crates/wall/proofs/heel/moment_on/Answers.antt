@@ -2,7 +2,6 @@
 use Prim.Native.Nat.{◌+◌, ◌*◌, ◌≤◌}
 use native.Mathlib.Nat.{mul-le-mul}
 use native.Mathlib.Omega.{arith}
-use borrow.Author.Rules.{rules}
 use Rattle.rules.specs.ToeAndStem.{moment_on_heel}
 use Rattle.rules.proofs.Accepted.{most, longest, wall_within}
 use Rattle.rules.proofs.Lines.{fill_most, heel_arm_most}

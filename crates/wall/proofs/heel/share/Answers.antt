@@ -2,7 +2,6 @@
 use Prim.Native.Nat.{◌*◌, ◌%◌, ◌/◌, ◌≤◌}
 use native.Mathlib.Nat.{mod-lt, mul-le-mul_right, div-mul-le_self, le_of_mul-le-mul_right}
 use native.Mathlib.Omega.{arith}
-use borrow.Author.Rules.{rules}
 use Rattle.whole.proofs.Rounded.{down_by_parts}
 use Rattle.wall.proofs.heel.share.Goals.{Start}
 use Rattle.wall.proofs.heel.share.Goals as goal

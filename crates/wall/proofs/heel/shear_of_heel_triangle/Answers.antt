@@ -2,7 +2,6 @@
 use mathlib.Core.Path.{sym, ◌∙◌}
 use Prim.Native.Nat.{◌*◌, ◌<◌}
 use native.Mathlib.Omega.{arith}
-use borrow.Author.Rules.{rules}
 use Rattle.rules.specs.JobFile.{stem_thickness}
 use Rattle.rules.proofs.Accepted.{wall_within}
 use Rattle.rules.proofs.HeelBearing.{heel_shear_cut, heel_shear_all}

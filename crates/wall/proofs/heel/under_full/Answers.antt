@@ -2,7 +2,6 @@
 use mathlib.Core.Path.{◌≡◌}
 use Prim.Native.Nat.{◌*◌, ◌≤◌}
 use native.Mathlib.Omega.{arith}
-use borrow.Author.Rules.{rules}
 use Rattle.rules.specs.JobFile.{heel_length, base_length}
 use Rattle.rules.specs.ToeAndStem.{twice_heel_arm}
 use Rattle.rules.proofs.Accepted.{wall_within}

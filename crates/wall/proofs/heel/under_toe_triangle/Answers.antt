@@ -2,7 +2,6 @@
 use mathlib.Core.Path.{◌≡◌, sym, ◌∙◌}
 use Prim.Native.Nat.{◌+◌, ◌-◌, ◌*◌, ◌≤◌}
 use native.Mathlib.Omega.{arith}
-use borrow.Author.Rules.{rules}
 use Rattle.rules.specs.JobFile.{stem_thickness, toe_length, base_length}
 use Rattle.rules.specs.ToeAndStem.{twice_arm}
 use Rattle.rules.proofs.Accepted.{wall_within, longest, base_length_lem}

@@ -1,7 +1,6 @@
 -- `wall::members::heel_over` meets its contract: a heel is worked where there is one, and a block under the base.
 use mathlib.Core.Path.{sym, ◌∙◌}
 use native.Mathlib.Omega.{arith}
-use borrow.Author.Rules.{rules}
 use borrow.Author.Tests.{not-true, not-false}
 use Rattle.rules.proofs.Sections.{heel_workable}
 use Rattle.wall.proofs.Answers.{no-heel, no-heel-bearing, heel-worked}

@@ -2,7 +2,6 @@
 use mathlib.Core.Path.{◌≡◌, ◌∙◌}
 use Prim.Native.Nat.{ℕ}
 use native.Mathlib.Omega.{arith}
-use borrow.Author.Rules.{rules}
 use lib.Ieee.Bits.{is_true}
 use Rattle.rules.specs.declared.Verdict.TheVariants.{Judged}
 use Rattle.rules.specs.ToeAndStem.{member_under}

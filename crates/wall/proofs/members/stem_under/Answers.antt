@@ -1,5 +1,4 @@
 -- `wall::members::stem_under` meets its contract: the section of a wall that fits is workable.
-use borrow.Author.Rules.{rules}
 use Rattle.rules.proofs.Sections.{stem_workable}
 use Rattle.wall.proofs.members.stem_under.Goals as goal
 

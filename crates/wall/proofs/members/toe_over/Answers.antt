@@ -1,7 +1,6 @@
 -- `wall::members::toe_over` meets its contract: a toe is worked where there is one, and a block under it.
 use mathlib.Core.Path.{sym, ◌∙◌}
 use native.Mathlib.Omega.{arith}
-use borrow.Author.Rules.{rules}
 use borrow.Author.Tests.{not-true, not-false}
 use Rattle.rules.proofs.Sections.{toe_workable}
 use Rattle.wall.proofs.Answers.{no-toe, no-bearing, toe-worked}

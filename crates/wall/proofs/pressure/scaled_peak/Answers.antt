@@ -1,6 +1,5 @@
 -- `wall::pressure::scaled_peak` meets its contract: what is left of the reach is the difference.
 use native.Mathlib.Omega.{arith}
-use borrow.Author.Rules.{rules}
 use Rattle.wall.proofs.pressure.scaled_peak.Goals as goal
 
 pub overflow_mul-peak : goal.overflow_mul-peak

@@ -1,6 +1,5 @@
 -- `wall::toe::bearing_under` meets its contract: a case for each kind of block.
 use mathlib.Core.Path.{◌≡◌, refl, sym, ap, ◌∙◌}
-use borrow.Author.Rules.{rules}
 use Rattle.rules.specs.declared.Action.{Action}
 use Rattle.rules.specs.declared.Kind.{Kind}
 use Rattle.rules.specs.ToeAndStem.{bearing_by, toe_bearing}

@@ -2,7 +2,6 @@
 use mathlib.Core.Path.{◌≡◌, refl, sym, ap, ◌∙◌}
 use Prim.Native.Nat.{ℕ, ◌+◌, ◌-◌, ◌*◌, ◌≤◌}
 use native.Mathlib.Omega.{arith}
-use borrow.Author.Rules.{rules}
 use Rattle.whole.specs.Rounding.{rounded_up}
 use Rattle.rules.specs.JobFile.{base_length}
 use Rattle.rules.specs.Bearing.{factored_scale, greatest_peak}

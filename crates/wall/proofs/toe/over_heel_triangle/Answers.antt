@@ -2,7 +2,6 @@
 use mathlib.Core.Path.{◌≡◌, sym, ◌∙◌}
 use Prim.Native.Nat.{ℕ, ◌*◌, ◌≤◌}
 use native.Mathlib.Omega.{arith}
-use borrow.Author.Rules.{rules}
 use Rattle.rules.specs.JobFile.{base_length}
 use Rattle.rules.proofs.Accepted.{wall_within, longest, base_length_lem}
 use Rattle.rules.proofs.Lines.{arm_most}

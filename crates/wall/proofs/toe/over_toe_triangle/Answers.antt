@@ -1,10 +1,8 @@
 -- `wall::toe::over_toe_triangle` meets its contract: a case for a contact that ends before the stem's middle, and one for a contact that reaches it.
-use mathlib.Core.Path.{◌≡◌, sym, ap, ◌∙◌}
-use Prim.Native.Nat.{ℕ, ◌-◌, ◌*◌, ◌≤◌, ◌<◌, ◌^◌}
+use mathlib.Core.Path.{sym, ◌∙◌}
+use Prim.Native.Nat.{◌*◌, ◌≤◌}
 use native.Mathlib.Omega.{arith}
-use borrow.Author.Rules.{rules}
-use Rattle.rules.specs.Bearing.{greatest_peak}
-use Rattle.rules.specs.ToeAndStem.{scaled, straight, ended_bearing}
+use Rattle.rules.specs.ToeAndStem.{scaled}
 use Rattle.rules.proofs.Accepted.{wall_within, longest}
 use Rattle.rules.proofs.Lines.{arm_most}
 use Rattle.rules.proofs.Triangles.{scaled_is, scaled_start}

@@ -1,6 +1,5 @@
 -- `wall::toe::shear_of_weight` meets its contract: the product fits, and the rest is the rounding.
 use native.Mathlib.Omega.{arith}
-use borrow.Author.Rules.{rules}
 use Rattle.whole.proofs.Factors.{two_fit}
 use Rattle.rules.specs.ToeAndStem.{shear_of_weight}
 use Rattle.rules.proofs.Accepted.{wall_within}

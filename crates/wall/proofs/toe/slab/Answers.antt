@@ -2,7 +2,6 @@
 use Prim.Native.Nat.{◌*◌, ◌≤◌}
 use native.Mathlib.Nat.{mul-le-mul}
 use native.Mathlib.Omega.{arith}
-use borrow.Author.Rules.{rules}
 use Rattle.rules.proofs.Accepted.{most, wall_within}
 use Rattle.wall.proofs.toe.slab.Goals.{After-field-2}
 use Rattle.wall.proofs.toe.slab.Goals as goal

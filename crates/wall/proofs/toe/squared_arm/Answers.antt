@@ -2,7 +2,6 @@
 use Prim.Native.Nat.{◌≤◌}
 use native.Mathlib.Nat.{mul-le-mul}
 use native.Mathlib.Omega.{arith}
-use borrow.Author.Rules.{rules}
 use Rattle.rules.specs.Forces.{squared}
 use Rattle.rules.proofs.Accepted.{wall_within, longest}
 use Rattle.rules.proofs.Lines.{arm_most}

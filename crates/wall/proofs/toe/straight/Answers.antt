@@ -1,6 +1,5 @@
 -- `wall::toe::straight` meets its contract: no pressure is above the greatest peak, so both products fit.
 use native.Mathlib.Omega.{arith}
-use borrow.Author.Rules.{rules}
 use Rattle.whole.proofs.Factors.{two_fit}
 use Rattle.rules.specs.ToeAndStem.{straight_shear, straight_moment}
 use Rattle.rules.proofs.Accepted.{wall_within}

@@ -1,5 +1,4 @@
 -- `wall::toe::toe_action` meets its contract: bearing less weight, in the shear and in the moment.
-use borrow.Author.Rules.{rules}
 use Rattle.rules.specs.ToeAndStem.{toe_action}
 use Rattle.wall.proofs.toe.toe_action.Goals as goal
 

@@ -1,7 +1,6 @@
 -- `wall::triangle::ended_moment` meets its contract: each product is kept whole, and the quotient fits.
 use mathlib.Core.Path.{sym, ◌∙◌}
 use native.Mathlib.Omega.{arith}
-use borrow.Author.Rules.{rules}
 use lib.Dec.{lit≤}
 use Rattle.wide.proofs.Exact.{first, exactly, up_exact}
 use Rattle.rules.proofs.Triangles.{about_middle}

@@ -1,7 +1,6 @@
 -- `wall::triangle::ended_shear` meets its contract: its part over lt is worked in a wide number, all of it fits 64 bits.
 use mathlib.Core.Path.{sym, ◌∙◌}
 use native.Mathlib.Omega.{arith}
-use borrow.Author.Rules.{rules}
 use lib.Dec.{lit≤}
 use Rattle.wide.proofs.Exact.{first, exactly, up_exact}
 use Rattle.rules.proofs.Triangles.{all, over_toe}

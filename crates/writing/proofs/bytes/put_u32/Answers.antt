@@ -1,5 +1,4 @@
 -- `writing::bytes::put_u32` meets its contract: four bytes, each behind the lower ones.
-use borrow.Author.Rules.{rules}
 use native.Mathlib.Omega.{arith}
 use lib.ListN.{length-set}
 use Rattle.rules.specs.WrittenFile.{u16_bytes, u32_bytes}

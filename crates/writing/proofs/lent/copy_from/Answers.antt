@@ -1,11 +1,11 @@
 -- `writing::lent::copy_from` meets its contract. The invariant: the numbers passed are copied.
 use mathlib.Core.Path.{◌≡◌, refl, sym, ◌∙◌}
 use mathlib.Core.List.{List}
-use Prim.Native.Nat.{ℕ, ◌+◌, ◌-◌, ◌≤◌, ◌<◌}
+use Prim.Native.Nat.{ℕ, ◌+◌, ◌≤◌, ◌<◌}
 use native.Mathlib.Omega.{arith}
 use lib.ListN.{length, get_or, take, drop, length-drop}
 use lib.Seq.{length-take-le, get_or-take, get_or-drop}
-use Rattle.whole.proofs.Indexed.{Filled, none_filled, one_more, all_filled}
+use Rattle.whole.proofs.Indexed.{none_filled, one_more, all_filled}
 use Rattle.writing.proofs.lent.copy_from.Goals as goal
 
 -- a part of a list is as long as was asked for, and its elements stand so far behind

@@ -1,7 +1,6 @@
 -- `writing::lent::entry_fits` meets its contract. The walls are as many as the buffer has, and a load is judged by the lengths of its own.
 use Prim.Native.Nat.{◌-◌, ◌<◌}
 use native.Mathlib.Omega.{arith}
-use borrow.Author.Rules.{rules}
 use borrow.Author.Tests.{le-leb, lt-leb}
 use lib.ListN.{get_or}
 use Rattle.rules.specs.JobFile.{wall_fields}

@@ -1,14 +1,10 @@
 -- `writing::lent::first_bad_load` meets its contract. The invariant: the loads before the index were passed, and are counted wall by wall.
 use mathlib.Core.List.{[]}
-use Prim.Native.Nat.{◌-◌, ◌≤◌, ◌<◌}
-use native.Mathlib.Omega.{arith}
-use lib.ListN.{get_or}
-use Rattle.rules.specs.JobFile.{wall_fields, entry_fields, most_walls, most_loads_on_wall}
+use Rattle.rules.specs.JobFile.{wall_fields, entry_fields}
 use Rattle.rules.specs.Answered.{first_bad_load}
 use Rattle.rules.specs.WrittenFile.{record_in, records_in}
-use Rattle.job.proofs.Judging.{Passed, all_passed, refused, one_passed, load_answer_at, no_load_passed}
-use Rattle.job.proofs.Counting.{Counted, none_counted, Met, its_answer, has_room, one_counted}
-use Rattle.writing.proofs.LentRecords.{in_length}
+use Rattle.job.proofs.Judging.{Passed, load_answer_at}
+use Rattle.job.proofs.Counting.{Counted}
 use Rattle.writing.proofs.lent.first_bad_load.Given as goal
 
 abbrev pub invariant-loop-i : goal.invariant-loop-i

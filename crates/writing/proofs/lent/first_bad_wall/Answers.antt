@@ -1,10 +1,6 @@
 -- `writing::lent::first_bad_wall` meets its contract. The invariant: the walls before the index were passed.
-use Prim.Native.Nat.{◌-◌}
-use native.Mathlib.Omega.{arith}
-use Rattle.rules.specs.JobFile.{wall_fields}
-use Rattle.rules.specs.Answered.{first_bad_wall}
-use Rattle.rules.specs.WrittenFile.{record_in, records_in}
-use Rattle.job.proofs.Judging.{Passed, all_passed, refused, one_passed, wall_answer_at, no_wall_passed}
+use Rattle.rules.specs.WrittenFile.{records_in}
+use Rattle.job.proofs.Judging.{all_passed, refused, one_passed, no_wall_passed}
 use Rattle.writing.proofs.lent.first_bad_wall.Goals as goal
 
 pub loop-i-init : goal.loop-i-init

@@ -1,10 +1,8 @@
 -- `writing::lent::first_bad_wall` meets its contract. The invariant: the walls before the index were passed.
-use Prim.Native.Nat.{◌-◌}
-use native.Mathlib.Omega.{arith}
 use Rattle.rules.specs.JobFile.{wall_fields}
 use Rattle.rules.specs.Answered.{first_bad_wall}
 use Rattle.rules.specs.WrittenFile.{record_in, records_in}
-use Rattle.job.proofs.Judging.{Passed, all_passed, refused, one_passed, wall_answer_at, no_wall_passed}
+use Rattle.job.proofs.Judging.{Passed, wall_answer_at}
 use Rattle.writing.proofs.lent.first_bad_wall.Given as goal
 
 abbrev pub invariant-loop-i : goal.invariant-loop-i

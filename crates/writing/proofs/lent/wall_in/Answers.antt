@@ -1,6 +1,4 @@
 -- `writing::lent::wall_in` meets its contract.
-use native.Mathlib.Omega.{arith}
-use borrow.Author.Rules.{rules}
 use Rattle.rules.specs.WrittenFile.{record_in}
 use Rattle.writing.proofs.lent.wall_in.Goals as goal
 

@@ -1,5 +1,4 @@
 -- `writing::written::file_bytes` meets its contract.
-use borrow.Author.Rules.{rules}
 use mathlib.Core.Path.{sym}
 use native.Mathlib.Omega.{arith}
 use Rattle.rules.proofs.Bytes.{file_length}

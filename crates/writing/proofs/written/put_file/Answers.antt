@@ -1,5 +1,4 @@
 -- `writing::written::put_file` meets its contract: the walls are put behind the header, and the loads behind them.
-use borrow.Author.Rules.{rules}
 use Prim.Native.Nat.{ℕ, ◌+◌, ◌*◌, ◌≤◌}
 use mathlib.Core.Path.{◌≡◌, sym}
 use mathlib.Core.List.{List, ◌++◌}

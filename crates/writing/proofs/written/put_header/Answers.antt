@@ -1,5 +1,4 @@
 -- `writing::written::put_header` meets its contract: six numbers of 16 bits.
-use borrow.Author.Rules.{rules}
 use Rattle.rules.specs.WrittenFile.{header_of}
 use Rattle.writing.proofs.written.put_header.Goals as goal
 
