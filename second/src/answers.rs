@@ -1,6 +1,5 @@
 //! Document 01, "What is answered": the refusals and the order of the tests; with
-//! document 02, "#102 Say which field", for refusals 4, 5 and 10, and "#108 Coefficients
-//! from the angle" for 11.
+//! document 02, "#102 Say which field", for refusals 4, 5 and 10.
 
 use crate::job_file::{
     field_in_range, read_record, Header, Job, Load, RawLoad, RawWall, Wall, EDITION, HEADER_BYTES,
@@ -31,9 +30,6 @@ pub const BUFFER_TOO_SHORT: Refusal = Refusal::at_nought(8);
 
 /// The same where a job file was to be written.
 pub const OUTPUT_TOO_SHORT: Refusal = Refusal::at_nought(9);
-
-/// The refusal of an angle that has no sine in the table, or no coefficients.
-pub const ANGLE_OUT_OF_RANGE: Refusal = Refusal::at_nought(11);
 
 impl Refusal {
     /// A refusal that names no place.

@@ -21,8 +21,6 @@ pub mod random;
 pub mod rounding;
 pub mod section;
 pub mod sheet_line;
-pub mod sine;
-pub mod soil;
 pub mod toe;
 pub mod traits;
 pub mod wide;
@@ -32,7 +30,7 @@ use answers::{Refusal, BUFFER_TOO_SHORT};
 use sheet_line::LINE_NUMBERS;
 
 /// The whole numbers of every rule. Only [`wide`] has longer ones, in products of its
-/// own; [`sine`] has as many bits in bounds of its own.
+/// own.
 #[cfg(not(feature = "narrow"))]
 pub type Whole = i128;
 
@@ -81,22 +79,6 @@ pub fn rewritten(input: &[u8]) -> Vec<u8> {
         Err(refusal) => format!("{refusal}\n").into_bytes(),
         Ok(file) => file,
     }
-}
-
-/// One line for an angle as it is written: both coefficients, or the refusal. Of a
-/// word that is no angle there is none.
-pub fn coefficients_line(word: &str) -> Option<String> {
-    let angle = soil::angle_as_written(word)?;
-    Some(match soil::coefficients(angle) {
-        Err(refusal) => format!("{refusal}\n"),
-        Ok(coefficients) => format!("{coefficients}\n"),
-    })
-}
-
-/// The table of sines, one a line.
-pub fn sines() -> String {
-    let table = sine::table().iter();
-    table.map(|sine| format!("{sine}\n")).collect()
 }
 
 /// One line for the drawing of a wall: the shape's name, then the bits of the

@@ -32,8 +32,6 @@ extern "C" {
         loads: *mut u32,
         loads_length: usize,
     ) -> u64;
-    fn office_sine(angle: u16) -> u64;
-    fn office_coefficients(angle: u16) -> u64;
 }
 
 /// The library's answers.
@@ -86,15 +84,5 @@ impl Office for Library {
                 loads.len(),
             )
         })
-    }
-
-    fn sine(&self, angle: u16) -> Packed {
-        // SAFETY: a number is all that the library is given.
-        Packed(unsafe { office_sine(angle) })
-    }
-
-    fn coefficients(&self, angle: u16) -> Packed {
-        // SAFETY: as above.
-        Packed(unsafe { office_coefficients(angle) })
     }
 }

@@ -1,17 +1,12 @@
 //! `second`: the sheet of a job file on standard input; `second draw N`: the
 //! drawing of wall N; `second rewrite`: the job taken apart and written again;
-//! `second traits`: what the job touches. `second coefficients ANGLE`: K0 and Ka;
-//! `second sines`: the table of sines.
+//! `second traits`: what the job touches.
 
 use std::io::{self, Read, Write};
 use std::process::ExitCode;
 
 const USAGE: &str = "usage: second | second draw N | second rewrite | second traits   \
-                     (job file on standard input)\n       \
-                     second coefficients ANGLE | second sines";
-
-const NO_ANGLE: &str = "second: an angle is in degrees, in digits, with a point and one \
-                        digit behind them if need be, as 24 or 24.2";
+                     (job file on standard input)";
 
 /// The start of standard input, as much as can matter; the rest is read and
 /// dropped so that a writer is not cut off.
@@ -26,22 +21,17 @@ fn read_input() -> io::Result<Vec<u8>> {
     Ok(kept)
 }
 
-/// What is to be printed; or what is wrong with arguments that ask for nothing there is.
-fn run(arguments: &[&str]) -> io::Result<Result<Vec<u8>, &'static str>> {
+/// What is to be printed; `None` of arguments that ask for nothing there is.
+fn run(arguments: &[&str]) -> io::Result<Option<Vec<u8>>> {
     Ok(match arguments {
-        [] => Ok(second::sheet(&read_input()?).into()),
-        ["rewrite"] => Ok(second::rewritten(&read_input()?)),
-        ["traits"] => Ok(second::traits::line(&read_input()?).into()),
+        [] => Some(second::sheet(&read_input()?).into()),
+        ["rewrite"] => Some(second::rewritten(&read_input()?)),
+        ["traits"] => Some(second::traits::line(&read_input()?).into()),
         ["draw", number] => match number.parse() {
-            Ok(number) => Ok(second::drawing_line(&read_input()?, number).into()),
-            Err(_) => Err(USAGE),
+            Ok(number) => Some(second::drawing_line(&read_input()?, number).into()),
+            Err(_) => None,
         },
-        ["coefficients", angle] => match second::coefficients_line(angle) {
-            Some(line) => Ok(line.into()),
-            None => Err(NO_ANGLE),
-        },
-        ["sines"] => Ok(second::sines().into()),
-        _ => Err(USAGE),
+        _ => None,
     })
 }
 
@@ -59,13 +49,13 @@ fn main() -> ExitCode {
         .collect();
     let words: Vec<&str> = arguments.iter().map(String::as_str).collect();
     let printed = run(&words).and_then(|bytes| match bytes {
-        Ok(bytes) => print(&bytes).map(|()| None),
-        Err(wrong) => Ok(Some(wrong)),
+        Some(bytes) => print(&bytes).map(|()| true),
+        None => Ok(false),
     });
     match printed {
-        Ok(None) => ExitCode::SUCCESS,
-        Ok(Some(wrong)) => {
-            eprintln!("{wrong}");
+        Ok(true) => ExitCode::SUCCESS,
+        Ok(false) => {
+            eprintln!("{USAGE}");
             ExitCode::from(2)
         }
         Err(error) => {

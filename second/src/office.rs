@@ -8,7 +8,6 @@ use crate::answers::{Refusal, BUFFER_TOO_SHORT};
 use crate::drawing::{draw, Shape};
 use crate::job_file::MOST_WALLS;
 use crate::sheet_line::{CHECKS, LINE_NUMBERS};
-use crate::soil::{self, Coefficients};
 use crate::writing;
 use std::fmt;
 
@@ -24,8 +23,7 @@ pub const DRAWING_ROOM: usize = 5;
 /// An answer in one number: the refusal's place in the low 32 bits, its number
 /// in the 16 bits above, and in the highest 16 the case of a drawing's shape, or
 /// how many bytes a job file has that was written. A sheet that is worked is 0,
-/// and so is a job that is taken apart. A sine, or two coefficients, stand where a
-/// refusal has its place.
+/// and so is a job that is taken apart.
 #[derive(Clone, Copy, Debug, PartialEq, Eq)]
 pub struct Packed(pub u64);
 
@@ -55,22 +53,7 @@ impl Packed {
         Packed((bytes as u64) << 48)
     }
 
-    /// Of a sine: its millionths, 0 where it was refused.
-    pub fn sine(self) -> u64 {
-        self.place()
-    }
-
-    /// Of coefficients: K0 in thousandths, in the low 16 bits; 0 where they were refused.
-    pub fn k0(self) -> u64 {
-        self.0 & 0xffff
-    }
-
-    /// And Ka, in the 16 bits above.
-    pub fn ka(self) -> u64 {
-        self.0 >> 16 & 0xffff
-    }
-
-    pub fn highest(self) -> u64 {
+    fn highest(self) -> u64 {
         self.0 >> 48
     }
 }
@@ -78,13 +61,6 @@ impl Packed {
 impl From<Refusal> for Packed {
     fn from(refusal: Refusal) -> Packed {
         Packed(u64::from(refusal.number) << 32 | refusal.place)
-    }
-}
-
-impl From<Coefficients> for Packed {
-    fn from(coefficients: Coefficients) -> Packed {
-        let Coefficients { k0, ka } = coefficients;
-        Packed((ka as u64) << 16 | k0 as u64)
     }
 }
 
@@ -132,12 +108,6 @@ pub trait Office {
 
     /// The records of a job, at the start of `walls` and of `loads`.
     fn records(&self, job: &[u8], walls: &mut [u32], loads: &mut [u32]) -> Packed;
-
-    /// The table's sine of an angle in tenths of a degree.
-    fn sine(&self, angle: u16) -> Packed;
-
-    /// K0 and Ka of such an angle.
-    fn coefficients(&self, angle: u16) -> Packed;
 }
 
 /// This program's own answers.
@@ -191,20 +161,6 @@ impl Office for Second {
             Err(refusal) => refusal.into(),
         }
     }
-
-    fn sine(&self, angle: u16) -> Packed {
-        match soil::sine(angle) {
-            Ok(millionths) => Packed(millionths as u64),
-            Err(refusal) => refusal.into(),
-        }
-    }
-
-    fn coefficients(&self, angle: u16) -> Packed {
-        match soil::coefficients(angle) {
-            Ok(coefficients) => coefficients.into(),
-            Err(refusal) => refusal.into(),
-        }
-    }
 }
 
 #[cfg(test)]
@@ -228,18 +184,6 @@ mod tests {
             Packed(2 << 48 | 7 << 32 | 9).to_string(),
             "number 7, place 9, highest bits 2"
         );
-    }
-
-    /// The greatest that 16 bits hold; no angle has coefficients so great.
-    #[test]
-    fn packed_coefficients_are_taken_apart() {
-        let packed = Packed::from(Coefficients { k0: 65_535, ka: 2 });
-        assert_eq!(packed, Packed(0x0002_ffff));
-        assert_eq!((packed.k0(), packed.ka()), (65_535, 2));
-        let packed = Packed::from(Coefficients { k0: 1, ka: 65_535 });
-        assert_eq!((packed.k0(), packed.ka()), (1, 65_535));
-        assert_eq!((packed.number(), packed.highest()), (0, 0));
-        assert_eq!(Packed(11 << 32 | 0xffff_fffe).sine(), 0xffff_fffe);
     }
 
     #[test]

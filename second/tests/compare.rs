@@ -1,17 +1,14 @@
 //! The comparison finds nothing where nothing differs, and every fault that is
 //! put into the answers.
 
-#[path = "compare/angles.rs"]
-mod angles;
 mod common;
 #[path = "compare/downstand.rs"]
 mod downstand;
 
-use angles::{Entry, WrongAngles};
 use common::borne_by_line;
 use second::answers::accept;
 use second::bearing::{Contact, Fraction, Reported};
-use second::compare::{run, Difference, Found, Until, Wish};
+use second::compare::{run, Found, Until, Wish};
 use second::forces::weights;
 use second::generator::{numbered, samples, KINDS};
 use second::job_file::{
@@ -27,8 +24,6 @@ use second::traits::of;
 use second::wide::{quotient_up, Wide};
 use second::writing::records;
 use second::Whole;
-use std::collections::BTreeSet;
-use std::hash::{DefaultHasher, Hash, Hasher};
 use std::time::Duration;
 
 const JOBS: usize = 23 * KINDS.len();
@@ -1031,14 +1026,6 @@ impl Office for Wrong {
         }
         answer
     }
-
-    fn sine(&self, angle: u16) -> Packed {
-        Second.sine(angle)
-    }
-
-    fn coefficients(&self, angle: u16) -> Packed {
-        Second.coefficients(angle)
-    }
 }
 
 /// The refusal of the first wall with a field that isn't taken.
@@ -1289,10 +1276,7 @@ impl Wrong {
 }
 
 fn found(office: &(impl Office + Sync), threads: usize) -> Option<Found> {
-    match run(office, &wish(threads)).found? {
-        Difference::Job(found) => Some(found),
-        Difference::Angle { angle, what } => panic!("at angle {angle}: {what}"),
-    }
+    run(office, &wish(threads)).found
 }
 
 #[test]
@@ -1307,8 +1291,6 @@ fn nothing_differs_from_itself() {
     assert!(table.contains(&format!("| calls of text | {} |", 2 * JOBS)));
     assert!(table.contains("| calls of records | taken apart "));
     assert!(table.contains("| calls of write | written "));
-    assert!(table.contains("| calls of sine | given 901; refused with 11: 64635 |"));
-    assert!(table.contains("| calls of coefficients | given 450; refused with 11: 65086 |"));
     assert!(table.contains("| toe block's end, in toes | before the face "));
     assert!(table.contains("| toe block's end, in heels | before the middle "));
     assert!(table.contains("| full block, in heels | with pressure at the base's end "));
@@ -1349,60 +1331,6 @@ fn every_fault_is_found() {
         let (name, sample) = numbered(4, found.number);
         assert_eq!((name, sample.bytes), (found.name, found.job), "{fault:?}");
     }
-}
-
-/// A wrong answer to an angle is found at the least one that gets it, and before any job.
-#[test]
-fn every_fault_of_an_angle_is_found() {
-    for (name, entry) in angles::FAULTS {
-        let office = WrongAngles(*entry);
-        let least = office.least();
-        assert!(least.is_some(), "{name}");
-        let ended = run(&office, &wish(2));
-        let at = match &ended.found {
-            Some(Difference::Angle { angle, .. }) => Some(*angle),
-            other => panic!("{name}: {other:?}"),
-        };
-        assert_eq!((at, ended.tally.jobs()), (least, 0), "{name}");
-    }
-}
-
-/// So each of them is a fault of its own.
-#[test]
-fn no_two_faults_of_an_angle_are_alike() {
-    let answers = |(_, entry): &(&str, Entry)| {
-        let (office, mut hasher) = (WrongAngles(*entry), DefaultHasher::new());
-        for angle in 0..=u16::MAX {
-            (office.sine(angle).0, office.coefficients(angle).0).hash(&mut hasher);
-        }
-        hasher.finish()
-    };
-    let names: BTreeSet<&str> = angles::FAULTS.iter().map(|(name, _)| *name).collect();
-    let apart: BTreeSet<u64> = angles::FAULTS.iter().map(answers).collect();
-    let count = angles::FAULTS.len();
-    assert_eq!((names.len(), apart.len()), (count, count));
-}
-
-/// Angles are held in every run, in one that takes no job too.
-#[test]
-fn angles_are_held_without_any_job() {
-    let no_jobs = Wish {
-        until: Until::Jobs(0),
-        ..wish(1)
-    };
-    let at_last = |angle| match angle {
-        u16::MAX => 0,
-        _ => Second.coefficients(angle).0,
-    };
-    let found = run(&WrongAngles(Entry::OfCoefficients(at_last)), &no_jobs).found;
-    assert!(matches!(
-        found,
-        Some(Difference::Angle {
-            angle: u16::MAX,
-            ..
-        })
-    ));
-    assert_eq!(run(&Second, &no_jobs).found, None);
 }
 
 /// So what is found of a wrong arm, bearing or steel is due to its fault.
@@ -1915,35 +1843,6 @@ fn what_differs_is_said() {
     let words = "check 3 in failures 021: the answer is true and not false";
     assert_eq!(said(AnyBitOfNumber), words);
     assert_eq!(said(Panic), "a panic: a ninth load");
-}
-
-#[test]
-fn what_differs_at_an_angle_is_said() {
-    let said = |entry| match run(&WrongAngles(entry), &wish(1)).found {
-        Some(Difference::Angle { angle, what }) => (angle, what),
-        other => panic!("{other:?}"),
-    };
-    let more = |angle| Second.sine(angle).0 + u64::from(angle == 300);
-    let words = "sine: the answer is (number 0, sine 500001, highest bits 0) \
-                 and not (number 0, sine 500000, highest bits 0)";
-    assert_eq!(said(Entry::OfSine(more)), (300, words.into()));
-    let taken = |angle| match angle {
-        0..=460 => Second.coefficients(angle.clamp(1, 450)).0,
-        _ => 11 << 32,
-    };
-    let words = "coefficients: the answer is (number 0, K0 999, Ka 997, highest bits 0) \
-                 and not (number 11, K0 0, Ka 0, highest bits 0)";
-    assert_eq!(said(Entry::OfCoefficients(taken)), (0, words.into()));
-    let above = |angle| Second.coefficients(angle).0 | u64::from(angle == 451) << 50;
-    let words = "coefficients: the answer is (number 11, K0 0, Ka 0, highest bits 4) \
-                 and not (number 11, K0 0, Ka 0, highest bits 0)";
-    assert_eq!(said(Entry::OfCoefficients(above)), (451, words.into()));
-    let panics = |angle| {
-        assert!(angle < 901, "past the table");
-        Second.sine(angle).0
-    };
-    let words = "a panic: past the table";
-    assert_eq!(said(Entry::OfSine(panics)), (901, words.into()));
 }
 
 #[test]

@@ -6,8 +6,6 @@ mod common;
 use common::{case_a_bytes, case_a_draft, CASE_A, CASE_A_LINE};
 use second::answers::{Refusal, BUFFER_TOO_SHORT};
 use second::office::{Office, Packed, Second, TEXT_ROOM};
-use second::soil::{coefficients, sine};
-use second::Whole;
 
 const CASE_A_NUMBERS: [i64; 19] = [
     1,
@@ -126,39 +124,6 @@ fn checks_are_asked_for_by_their_bits() {
     for bit in bits {
         assert_eq!(set(bit), [bit]);
         assert!(!set(u16::MAX - bit).contains(&bit));
-    }
-}
-
-/// A sine stands alone in the low bits; of two coefficients K0 stands lower.
-#[test]
-fn sines_and_coefficients_are_packed() {
-    let refused = Packed(11 << 32);
-    assert_eq!(Second.sine(0), Packed(0));
-    assert_eq!(Second.sine(242), Packed(409_923));
-    assert_eq!(Second.sine(900), Packed(1_000_000));
-    assert_eq!(Second.coefficients(242), Packed(419 << 16 | 591));
-    assert_eq!(Second.coefficients(450), Packed(172 << 16 | 293));
-    for angle in [0, 451, 460, 900, 901, u16::MAX] {
-        assert_eq!(Second.coefficients(angle), refused);
-    }
-    for angle in [901, 1800, 3600, u16::MAX] {
-        assert_eq!(Second.sine(angle), refused);
-    }
-}
-
-/// The answers say all that the soil does, and nothing else, of every angle there is.
-#[test]
-fn answers_of_every_angle() {
-    for angle in 0..=u16::MAX {
-        let answer = Second.sine(angle);
-        let due = sine(angle).map_or((0, 11), |sine| (sine, 0));
-        assert_eq!((answer.sine() as Whole, answer.number()), due, "{angle}");
-        assert_eq!(answer.highest(), 0, "{angle}");
-        let answer = Second.coefficients(angle);
-        let due = coefficients(angle).map_or((0, 0, 11), |both| (both.k0, both.ka, 0));
-        let (k0, ka) = (answer.k0() as Whole, answer.ka() as Whole);
-        assert_eq!((k0, ka, answer.number()), due, "{angle}");
-        assert_eq!(answer.highest(), 0, "{angle}");
     }
 }
 

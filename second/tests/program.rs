@@ -4,7 +4,7 @@ mod common;
 
 use common::{case_a_bytes, case_a_draft, CASE_A_LINE};
 use std::io::Write;
-use std::process::{Command, Output, Stdio};
+use std::process::{Command, Stdio};
 
 fn run(arguments: &[&str], input: &[u8]) -> (String, Option<i32>) {
     let (printed, status) = run_for_bytes(arguments, input);
@@ -12,16 +12,11 @@ fn run(arguments: &[&str], input: &[u8]) -> (String, Option<i32>) {
 }
 
 fn run_for_bytes(arguments: &[&str], input: &[u8]) -> (Vec<u8>, Option<i32>) {
-    let output = output_of(arguments, input);
-    (output.stdout, output.status.code())
-}
-
-fn output_of(arguments: &[&str], input: &[u8]) -> Output {
     let mut child = Command::new(env!("CARGO_BIN_EXE_second"))
         .args(arguments)
         .stdin(Stdio::piped())
         .stdout(Stdio::piped())
-        .stderr(Stdio::piped())
+        .stderr(Stdio::null())
         .spawn()
         .unwrap();
     let mut pipe = child.stdin.take().unwrap();
@@ -30,7 +25,7 @@ fn output_of(arguments: &[&str], input: &[u8]) -> Output {
     let output = child.wait_with_output().unwrap();
     // A program that refuses its arguments need not read its input.
     let _ = writer.join().unwrap();
-    output
+    (output.stdout, output.status.code())
 }
 
 #[test]
@@ -97,43 +92,6 @@ fn a_job_is_written_again_or_its_refusal_printed() {
     assert_eq!(run(&["rewrite"], &[]), ("refused 1 0\n".into(), Some(0)));
 }
 
-/// An angle is an argument, and nothing is read for it.
-#[test]
-fn coefficients_are_one_line() {
-    let printed = |angle| run(&["coefficients", angle], &[]);
-    for angle in ["24.2", "024.2"] {
-        assert_eq!(printed(angle), ("K0 591 Ka 419\n".into(), Some(0)));
-    }
-    assert_eq!(printed("45"), ("K0 293 Ka 172\n".into(), Some(0)));
-    for angle in ["0.0", "45.1", "46", "99999999999999999999999"] {
-        assert_eq!(printed(angle), ("refused 11 0\n".into(), Some(0)));
-    }
-}
-
-/// What is no angle gets words on standard error that show one.
-#[test]
-fn what_is_no_angle_is_turned_away() {
-    for word in ["", "24.", ".5", "24.25", "24,2", "-5", "+5", " 24", "1e1"] {
-        let output = output_of(&["coefficients", word], &[]);
-        let answer = (output.stdout, output.status.code());
-        assert_eq!(answer, (Vec::new(), Some(2)), "{word:?}");
-        let words = String::from_utf8(output.stderr).unwrap();
-        assert!(words.contains("24.2") && words.ends_with('\n'), "{words}");
-    }
-}
-
-#[test]
-fn sines_are_901_lines() {
-    let (printed, status) = run(&["sines"], &[]);
-    assert_eq!(status, Some(0));
-    let lines: Vec<&str> = printed.split_terminator('\n').collect();
-    assert_eq!(lines.len(), 901);
-    let some = [0, 1, 242, 300, 900].map(|angle| lines[angle]);
-    assert_eq!(some, ["0", "1745", "409923", "500000", "1000000"]);
-    let table = second::sine::table().iter().map(ToString::to_string);
-    assert!(lines.iter().copied().eq(table));
-}
-
 #[test]
 fn other_arguments_are_turned_away() {
     for arguments in [
@@ -142,10 +100,6 @@ fn other_arguments_are_turned_away() {
         &["draw", "-1"],
         &["rewrite", "1"],
         &["sheet"],
-        &["coefficients"],
-        &["coefficients", "24", "2"],
-        &["sines", "1"],
-        &["sine"],
     ] {
         assert_eq!(run(arguments, &case_a_bytes()), (String::new(), Some(2)));
     }

@@ -6,10 +6,9 @@
 ghost use Rattle.std.specs.Prelude.{◌≤◌, IfOk, length};
 
 use std::env::{Env, FillError};
-use std::io;
 use std::io::{Read, Write};
 use std::rt::Files;
-use std::{fs, str};
+use std::{fs, io, str};
 
 // So much of a file is read, and no text is longer.
 const BUFFER: usize = 65536;

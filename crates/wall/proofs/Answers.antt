@@ -23,31 +23,31 @@ use Rattle.wall.specs.Working.{Bears, worked_over}
 
 -- a toe is worked where there is one, and a block under it
 module _ (wall : Wall) (b : Block) where
-  pub no-toe : toe_length wall ≡ 0 → toe_under wall b ≡ no_member
+  pub no_toe : toe_length wall ≡ 0 → toe_under wall b ≡ no_member
   unfolding toe_under toe_worked
-  no-toe e = rw e
+  no_toe e = rw e
 
-  pub no-bearing : is_given b ≡ false → toe_under wall b ≡ no_member
+  pub no_bearing : is_given b ≡ false → toe_under wall b ≡ no_member
   unfolding toe_under toe_worked
-  no-bearing e = rw (e, and-false (ltb 0 (toe_length wall)))
+  no_bearing e = rw (e, and-false (ltb 0 (toe_length wall)))
 
-  pub toe-worked : 0 < toe_length wall → is_given b ≡ true → toe_under wall b ≡ member_under (toe_section wall) (toe_action wall b)
+  pub toe_worked_lem : 0 < toe_length wall → is_given b ≡ true → toe_under wall b ≡ member_under (toe_section wall) (toe_action wall b)
   unfolding toe_under toe_worked
-  toe-worked some e = rw (lt-ltb 0 (toe_length wall) some, e)
+  toe_worked_lem some e = rw (lt-ltb 0 (toe_length wall) some, e)
 
 -- and so is a heel
 module _ (wall : Wall) (b : Block) where
-  pub no-heel : heel_length wall ≡ 0 → heel_under wall b ≡ no_member
+  pub no_heel : heel_length wall ≡ 0 → heel_under wall b ≡ no_member
   unfolding heel_under heel_worked
-  no-heel e = rw e
+  no_heel e = rw e
 
-  pub no-heel-bearing : is_given b ≡ false → heel_under wall b ≡ no_member
+  pub no_heel_bearing : is_given b ≡ false → heel_under wall b ≡ no_member
   unfolding heel_under heel_worked
-  no-heel-bearing e = rw (e, and-false (ltb 0 (heel_length wall)))
+  no_heel_bearing e = rw (e, and-false (ltb 0 (heel_length wall)))
 
-  pub heel-worked : 0 < heel_length wall → is_given b ≡ true → heel_under wall b ≡ member_under (heel_section wall) (heel_action wall b)
+  pub heel_worked_lem : 0 < heel_length wall → is_given b ≡ true → heel_under wall b ≡ member_under (heel_section wall) (heel_action wall b)
   unfolding heel_under heel_worked
-  heel-worked some e = rw (lt-ltb 0 (heel_length wall) some, e)
+  heel_worked_lem some e = rw (lt-ltb 0 (heel_length wall) some, e)
 
 module _ (wall : Wall) (loads : List Load) (fit : Fit wall loads) where
   borne : bearing_of wall loads ≡ worked_bearing wall loads
@@ -66,9 +66,9 @@ module _ (wall : Wall) (loads : List Load) (fit : Fit wall loads) where
   fills = rw borne
 
   -- and the wall is worked from it
-  pub worked-is : worked_over wall (bearing_of wall loads) ≡ worked_wall wall loads
+  pub worked_is : worked_over wall (bearing_of wall loads) ≡ worked_wall wall loads
   unfolding worked_over worked_wall worked_bearing worked_forces pressed_by toe stem heel
-  worked-is = rw borne
+  worked_is = rw borne
 
 -- ---- refused or not
 
@@ -82,9 +82,9 @@ module _ (wall : Wall) (loads : List Load) where
       go true e = refl
       go false e = e
 
-  pub line-worked : fits wall loads ≡ true → (n : ℕ) → record { answer = (bearing_of wall loads).forces.answer; numbers = line n wall loads } ≡ line_of n wall loads
+  pub line_worked : fits wall loads ≡ true → (n : ℕ) → record { answer = (bearing_of wall loads).forces.answer; numbers = line n wall loads } ≡ line_of n wall loads
   unfolding bearing_of forces_of worked_forces line_of
-  line-worked e n = rw e
+  line_worked e n = rw e
 
   pub line_refused : fits wall loads ≡ false → (n : ℕ)
       → record { answer = (bearing_of wall loads).forces.answer; numbers = replicate line_numbers (pos 0) } ≡ line_of n wall loads

@@ -60,8 +60,8 @@ fn main(rt: HostRuntime) -> io::Result<()> {
             let length = read_full(rt.stdin(), &mut job)?;
             print_drawing(&job[..length], wall, &mut rt.stdout())
         }
-        Asked::NoNumber => rt
-            .stderr()
-            .write_all(b"walldraw: give the number of a wall, in one to ten digits\n"),
+        Asked::NoNumber => rt.stderr().write_all(
+            b"walldraw: give the number of a wall, in one to ten digits\n",
+        ),
     }
 }

@@ -1,7 +1,7 @@
-//! Holds the office library to this program on every angle and on the generator's jobs:
+//! Holds the office library to this program on the generator's jobs:
 //! `compare --seed S (--jobs N | --seconds T) [--threads K] [--save FILE]`.
 
-use second::compare::{run, Difference, Ended, Found, Until, Wish};
+use second::compare::{run, Ended, Found, Until, Wish};
 use second::library::Library;
 use std::io::{self, Write};
 use std::num::NonZeroUsize;
@@ -12,7 +12,7 @@ use std::time::Duration;
 
 const USAGE: &str = "usage: compare --seed S (--jobs N | --seconds T) [--threads K] [--save FILE]";
 
-const NO_JOB_HELD: &str = "NO JOB COMPARED: the run ended before its first one\n";
+const NOTHING_HELD: &str = "NOTHING COMPARED: the run ended before its first job\n";
 
 /// The wish, and where a job that differs is saved.
 fn read_words(words: &[String]) -> Option<(Wish, PathBuf)> {
@@ -52,16 +52,7 @@ fn no_difference(wish: &Wish, ended: &Ended) -> String {
     )
 }
 
-fn difference(wish: &Wish, found: &Difference, save: &Path) -> String {
-    match found {
-        Difference::Angle { angle, what } => {
-            format!("DIFFERENCE at angle {angle}, in tenths of a degree: {what}\n")
-        }
-        Difference::Job(found) => difference_in_job(wish, found, save),
-    }
-}
-
-fn difference_in_job(wish: &Wish, found: &Found, save: &Path) -> String {
+fn difference(wish: &Wish, found: &Found, save: &Path) -> String {
     let saved = match std::fs::write(save, &found.job) {
         Ok(()) => format!("the job is saved as {}", save.display()),
         Err(error) => format!("the job is not saved as {}: {error}", save.display()),
@@ -83,7 +74,7 @@ fn main() -> ExitCode {
     let ended = run(&Library, &wish);
     let (text, status) = match &ended.found {
         Some(found) => (difference(&wish, found, &save), ExitCode::FAILURE),
-        None if ended.tally.jobs() == 0 => (NO_JOB_HELD.into(), ExitCode::FAILURE),
+        None if ended.tally.jobs() == 0 => (NOTHING_HELD.into(), ExitCode::FAILURE),
         None => (no_difference(&wish, &ended), ExitCode::SUCCESS),
     };
     if let Err(error) = io::stdout().write_all(text.as_bytes()) {

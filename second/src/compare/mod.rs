@@ -1,15 +1,14 @@
-//! The office library held to this program, angle by angle and job by job: every
-//! answer, every number of what was lent and around it, and what was given to be
-//! read, which must stay.
+//! The office library held to this program, job by job: every answer, every
+//! number of what was lent and around it, and what was given to be read, which
+//! must stay.
 
-mod angles;
 mod buffers;
 mod run;
 mod tally;
 mod twins;
 mod writing;
 
-pub use run::{run, Difference, Ended, Found, Until, Wish};
+pub use run::{run, Ended, Found, Until, Wish};
 pub use tally::Tally;
 
 use crate::answers::accept;
@@ -72,7 +71,7 @@ impl<'a, O: Office> Comparer<'a, O> {
         &self.tally
     }
 
-    /// Takes one job through every entry for one, or says what differs. Chance settles
+    /// Takes one job through every entry, or says what differs. Chance settles
     /// how much more room is lent, which of many walls are drawn and how records
     /// are changed that are to be written.
     pub fn hold(&mut self, job: &[u8], random: &mut Random) -> Result<(), String> {

@@ -1,6 +1,6 @@
-//! A comparison over every angle, and over many generated jobs by several threads.
+//! A comparison over many generated jobs, by several threads.
 
-use super::{angles, Comparer, Tally};
+use super::{Comparer, Tally};
 use crate::generator::{numbered, KINDS};
 use crate::office::Office;
 use crate::random::Random;
@@ -37,21 +37,10 @@ pub struct Found {
     pub job: Vec<u8>,
 }
 
-/// What differs first; a job is taken only where no angle differs.
-#[derive(Clone, Debug, PartialEq, Eq)]
-pub enum Difference {
-    /// The least angle, in tenths of a degree.
-    Angle {
-        angle: u16,
-        what: String,
-    },
-    Job(Found),
-}
-
 pub struct Ended {
     pub tally: Tally,
     pub took: Duration,
-    pub found: Option<Difference>,
+    pub found: Option<Found>,
 }
 
 /// What the threads share.
@@ -63,44 +52,18 @@ struct Shared<'a, O> {
     found: Mutex<Option<Found>>,
 }
 
-/// Takes every angle, and then the seed's jobs, until the end wished for or the first
-/// difference.
+/// Takes the seed's jobs in order, each by the next free thread, until the end
+/// wished for or the first difference. Every job before the last one taken is
+/// held, so a run by time is a run of so many jobs.
 pub fn run<O: Office + Sync>(office: &O, wish: &Wish) -> Ended {
-    let began = Instant::now();
-    let mut tally = Tally::default();
-    let found = hold_angles(office, &mut tally)
-        .or_else(|| hold_jobs(office, wish, began, &mut tally).map(Difference::Job));
-    Ended {
-        tally,
-        took: began.elapsed(),
-        found,
-    }
-}
-
-/// Asks for every angle of 16 bits, from 0 on; the first that differs.
-fn hold_angles(office: &impl Office, tally: &mut Tally) -> Option<Difference> {
-    (0..=u16::MAX).find_map(|angle| {
-        let held = caught(|| angles::hold(office, angle, tally));
-        let what = held.err()?;
-        Some(Difference::Angle { angle, what })
-    })
-}
-
-/// Takes the jobs in order, each by the next free thread; the first that differs. Every
-/// job before the last one taken is held, so a run by time is a run of so many jobs.
-fn hold_jobs<O: Office + Sync>(
-    office: &O,
-    wish: &Wish,
-    began: Instant,
-    tally: &mut Tally,
-) -> Option<Found> {
     let shared = Shared {
         office,
         wish,
-        began,
+        began: Instant::now(),
         next: AtomicUsize::new(0),
         found: Mutex::new(None),
     };
+    let mut tally = Tally::default();
     thread::scope(|scope| {
         let threads: Vec<_> = (0..wish.threads.max(1))
             .map(|_| scope.spawn(|| shared.work()))
@@ -113,7 +76,11 @@ fn hold_jobs<O: Office + Sync>(
         }
     });
     let found = shared.found.into_inner();
-    found.unwrap_or_else(PoisonError::into_inner)
+    Ended {
+        tally,
+        took: shared.began.elapsed(),
+        found: found.unwrap_or_else(PoisonError::into_inner),
+    }
 }
 
 impl<O: Office> Shared<'_, O> {
@@ -150,7 +117,9 @@ impl<O: Office> Shared<'_, O> {
         // A stream beside those of the kinds.
         let mut random = Random::for_sample(seed, KINDS.len() as u64, number as u64);
         let lent = sample.bytes.clone();
-        let held = caught(|| comparer.hold(&lent, &mut random));
+        // After a panic the run is at its end, so nothing half done is used.
+        let held = catch_unwind(AssertUnwindSafe(|| comparer.hold(&lent, &mut random)));
+        let held = held.unwrap_or_else(|panic| Err(panic_in_words(&*panic)));
         // Behind a shared reference the compiler may take the bytes for unchanged.
         let held = held.and_then(|()| hold_job(&sample.bytes, &black_box(lent)));
         let Err(what) = held else { return };
@@ -165,13 +134,6 @@ impl<O: Office> Shared<'_, O> {
             });
         }
     }
-}
-
-/// What is held, with a panic for a difference. After one the run is at its end, so
-/// nothing half done is used.
-fn caught(hold: impl FnOnce() -> Result<(), String>) -> Result<(), String> {
-    let held = catch_unwind(AssertUnwindSafe(hold));
-    held.unwrap_or_else(|panic| Err(panic_in_words(&*panic)))
 }
 
 fn panic_in_words(panic: &(dyn Any + Send)) -> String {

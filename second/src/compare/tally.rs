@@ -12,13 +12,12 @@ use crate::sheet_line::Worked;
 use crate::toe::Tip;
 use std::fmt;
 
-/// Numbers of answers: 0 for a success, 1 to 11 and 18 for refusals.
+/// Numbers of answers: 0 for a success, 1 to 10 and 18 for refusals.
 const ANSWERS: usize = 19;
 
-/// The refusals that any job may get, those that any records may, and that of an angle.
+/// The refusals that any job may get, and those that any records may.
 const OF_A_JOB: &[usize] = &[1, 2, 3, 4, 5, 6, 7, 10];
 const OF_RECORDS: &[usize] = &[3, 5, 6, 7, 9];
-const OF_AN_ANGLE: &[usize] = &[11];
 
 #[derive(Clone, Debug, Default, PartialEq, Eq)]
 pub struct Tally {
@@ -40,9 +39,6 @@ pub struct Tally {
     /// Calls of write, by their answer, and records read back.
     written: [u64; ANSWERS],
     read_back: u64,
-    /// Calls of sine and of coefficients, by their answer.
-    sines: [u64; ANSWERS],
-    coefficients: [u64; ANSWERS],
     /// Walls, by their blocks and by the bits that are set.
     service: [u64; BLOCKS.len()],
     factored: [u64; BLOCKS.len()],
@@ -318,14 +314,6 @@ impl Tally {
         self.read_back += 1;
     }
 
-    pub fn count_sine(&mut self, answer: Packed) {
-        count(&mut self.sines, answer.number() as usize);
-    }
-
-    pub fn count_coefficients(&mut self, answer: Packed) {
-        count(&mut self.coefficients, answer.number() as usize);
-    }
-
     pub fn jobs(&self) -> u64 {
         self.jobs.iter().sum()
     }
@@ -342,8 +330,6 @@ impl Tally {
         self.written_again += other.written_again;
         add(&mut self.written, &other.written);
         self.read_back += other.read_back;
-        add(&mut self.sines, &other.sines);
-        add(&mut self.coefficients, &other.coefficients);
         add(&mut self.service, &other.service);
         add(&mut self.factored, &other.factored);
         add(&mut self.bits, &other.bits);
@@ -424,17 +410,6 @@ impl Tally {
         ]
     }
 
-    fn rows_of_angles(&self) -> [Row; 2] {
-        let row = |counts: &[u64; ANSWERS]| {
-            let given = format!("given {}", counts[0]);
-            answers(&given, counts, OF_AN_ANGLE)
-        };
-        [
-            ("calls of sine", row(&self.sines)),
-            ("calls of coefficients", row(&self.coefficients)),
-        ]
-    }
-
     fn rows_of_walls(&self) -> [Row; 15] {
         let places = named(&DOWNSTAND_PLACES, &self.downstand_places);
         [
@@ -477,9 +452,10 @@ impl fmt::Display for Tally {
     fn fmt(&self, out: &mut fmt::Formatter<'_>) -> fmt::Result {
         writeln!(out, "| | |\n|---|---|")?;
         let calls = self.rows_of_calls();
-        let angles = self.rows_of_angles();
         let walls = self.rows_of_walls();
-        let mut rows = calls.iter().chain(&angles).chain(&walls);
-        rows.try_for_each(|(name, words)| writeln!(out, "| {name} | {words} |"))
+        calls
+            .iter()
+            .chain(&walls)
+            .try_for_each(|(name, words)| writeln!(out, "| {name} | {words} |"))
     }
 }

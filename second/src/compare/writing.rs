@@ -213,14 +213,6 @@ mod tests {
             walls[0] ^= u32::from(self.number);
             answer
         }
-
-        fn sine(&self, angle: u16) -> Packed {
-            Second.sine(angle)
-        }
-
-        fn coefficients(&self, angle: u16) -> Packed {
-            Second.coefficients(angle)
-        }
     }
 
     #[test]

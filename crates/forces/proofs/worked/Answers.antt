@@ -20,18 +20,18 @@ use Rattle.forces.proofs.worked.Goals as goal
 
 -- ---- a wall that fits with its loads: its tables at Ka and at K0 can be summed
 module _ {wall : Wall} {loads : List Load} (f : Fit wall loads) where
-  at-Ka : Summable loads (table (active_coefficient wall) wall loads)
-  at-Ka = wall_summable _ _ f _ (wall_within _ f.wall_fits).active.1
+  at_Ka : Summable loads (table (active_coefficient wall) wall loads)
+  at_Ka = wall_summable _ _ f _ (wall_within _ f.wall_fits).active.1
 
-  at-K0 : Summable loads (table (rest_coefficient wall) wall loads)
-  at-K0 = wall_summable _ _ f _ (wall_within _ f.wall_fits).rest.1
+  at_K0 : Summable loads (table (rest_coefficient wall) wall loads)
+  at_K0 = wall_summable _ _ f _ (wall_within _ f.wall_fits).rest.1
 
 -- ---- the code's sums are those of the rules
 -- what lasts of R, which is not negative and below what R is below
-lasting-is : (c : After-column_sum-resting) → let a = c.args in
+lasting_is : (c : After-column_sum-resting) → let a = c.args in
     to_z w64 (of_z w64 c.totals_by-service.result.R) -ℤ to_z w64 (of_z w64 c.column_sum-resting.result) ≡ lasting_weight a.wall a.loads
 unfolding lasting_weight service
-lasting-is c =
+lasting_is c =
     let f = fit _ _ c.requires in
     let active = rw c.field.ensures.0 at c.of_wall-active.ensures in
     let sorts = c.sorts_of-sorts.ensures in
@@ -40,24 +40,24 @@ lasting-is c =
     let resting = to_z-of_z w64 c.column_sum-resting.result (search rules) in
     rw (
       R,
-      c.totals_by-service.ensures ∙ totals_are (at-Ka f) active sorts eight once refl,
+      c.totals_by-service.ensures ∙ totals_are (at_Ka f) active sorts eight once refl,
       resting,
-      c.column_sum-resting.ensures ∙ sum_is (at-Ka f) active sorts eight rests vertical refl,
+      c.column_sum-resting.ensures ∙ sum_is (at_Ka f) active sorts eight rests vertical refl,
     )
 
-lasting-fits : (c : After-column_sum-resting) → SFits w64 (to_z w64 (of_z w64 c.totals_by-service.result.R) -ℤ to_z w64 (of_z w64 c.column_sum-resting.result))
-lasting-fits c =
+lasting_fits : (c : After-column_sum-resting) → SFits w64 (to_z w64 (of_z w64 c.totals_by-service.result.R) -ℤ to_z w64 (of_z w64 c.column_sum-resting.result))
+lasting_fits c =
     let f = fit _ _ c.requires in
-    rw (lasting-is c) (fits_abs _ (omega (arith, pos-<ℤ.0 (rw (nonneg_abs (lasting_nonneg _ _ f)) at (lasting_below _ _ f)))))
+    rw (lasting_is c) (fits_abs _ (omega (arith, pos-<ℤ.0 (rw (nonneg_abs (lasting_nonneg _ _ f)) at (lasting_below _ _ f)))))
 
 pub overflow_sub-service : goal.overflow_sub-service
-overflow_sub-service c = lasting-fits (goal.at.overflow_sub-service c).After-column_sum-resting
+overflow_sub-service c = lasting_fits (goal.at.overflow_sub-service c).After-column_sum-resting
 
 pub held-sliding-requires : goal.held-sliding-requires
 held-sliding-requires c =
     let summed = (goal.at.held-sliding-requires c).After-column_sum-resting in
     let f = fit _ _ c.requires in
-    (f.wall_fits, rw (to_z-of_z w64 _ (lasting-fits summed), lasting-is summed) (lasting_below _ _ f))
+    (f.wall_fits, rw (to_z-of_z w64 _ (lasting_fits summed), lasting_is summed) (lasting_below _ _ f))
 
 pub returns : goal.returns
 unfolding worked_forces sliding_of service factored
@@ -73,10 +73,10 @@ returns c =
       c.fill_on_heel-fill.ensures,
       c.stem_action-stem.ensures,
       c.held-sliding.ensures,
-      to_z-of_z w64 _ (lasting-fits summed) ∙ lasting-is summed,
+      to_z-of_z w64 _ (lasting_fits summed) ∙ lasting_is summed,
       H,
-      c.totals_by-service.ensures ∙ totals_are (at-Ka f) active sorts eight once refl,
-      c.totals_by-factored.ensures ∙ totals_are (at-K0 f) resting sorts eight tenths refl,
+      c.totals_by-service.ensures ∙ totals_are (at_Ka f) active sorts eight once refl,
+      c.totals_by-factored.ensures ∙ totals_are (at_K0 f) resting sorts eight tenths refl,
     )
 
 pub of_wall-active-requires : goal.of_wall-active-requires
@@ -88,17 +88,17 @@ of_wall-at_rest-requires c = (c.requires, omega (arith, wall_within _ (fit _ _ c
 pub totals_by-service-requires : goal.totals_by-service-requires
 totals_by-service-requires c =
     let active = rw c.field.ensures.0 at c.of_wall-active.ensures in
-    (small (at-Ka (fit _ _ c.requires)) active c.sorts_of-sorts.ensures, all_light tt)
+    (small (at_Ka (fit _ _ c.requires)) active c.sorts_of-sorts.ensures, all_light tt)
 
 pub totals_by-factored-requires : goal.totals_by-factored-requires
 totals_by-factored-requires c =
     let resting = rw c.field-2.ensures.0 at c.of_wall-at_rest.ensures in
-    (small (at-K0 (fit _ _ c.requires)) resting c.sorts_of-sorts.ensures, all_light tt)
+    (small (at_K0 (fit _ _ c.requires)) resting c.sorts_of-sorts.ensures, all_light tt)
 
 pub column_sum-resting-requires : goal.column_sum-resting-requires
 column_sum-resting-requires c =
     let active = rw c.field.ensures.0 at c.of_wall-active.ensures in
-    (omega arith, small (at-Ka (fit _ _ c.requires)) active c.sorts_of-sorts.ensures, light tt)
+    (omega arith, small (at_Ka (fit _ _ c.requires)) active c.sorts_of-sorts.ensures, light tt)
 
 pub stem_action-stem-requires : goal.stem_action-stem-requires
 stem_action-stem-requires c = (c.requires, c.sorts_of-sorts.ensures)

@@ -17,14 +17,14 @@ pub returns-then-not-is_worked : goal.returns-then-not-is_worked
 returns-then-not-is_worked c = sym (is c.before ∙ rw (sym c.is_worked.ensures ∙ not-true _ c.if-not-is_worked.true-raw))
 
 -- a wall that isn't refused leaves the answer to its loads
-of-loads : (c : After-first_unfit-unfit) → let start = c.args in
+of_loads : (c : After-first_unfit-unfit) → let start = c.args in
     examined start.wall start.loads ≡ refused_load c.first_unfit-unfit.result
-of-loads c =
+of_loads c =
     let d = c.before.before in
     is d ∙ rw (sym d.is_worked.ensures ∙ not-false _ c.if-not-is_worked.false-raw, ← c.first_unfit-unfit.ensures)
 
 pub returns-then-unfit-eq0 : goal.returns-then-unfit-eq0
-returns-then-unfit-eq0 c = sym (of-loads c.before ∙ rw (le-ltb 0 c.first_unfit-unfit.result (omega arith)))
+returns-then-unfit-eq0 c = sym (of_loads c.before ∙ rw (le-ltb 0 c.first_unfit-unfit.result (omega arith)))
 
 pub returns-else-unfit-eq0 : goal.returns-else-unfit-eq0
-returns-else-unfit-eq0 c = sym (of-loads c.before ∙ rw (lt-ltb 0 c.first_unfit-unfit.result (omega arith)))
+returns-else-unfit-eq0 c = sym (of_loads c.before ∙ rw (lt-ltb 0 c.first_unfit-unfit.result (omega arith)))

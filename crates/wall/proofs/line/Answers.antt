@@ -7,7 +7,7 @@ use Rattle.rules.specs.SheetLine.{numbers_by, line}
 use Rattle.rules.specs.Beyond.{fits}
 use Rattle.rules.proofs.Examined.{Fit, fit}
 use Rattle.rules.proofs.Lines.{line_small}
-use Rattle.wall.proofs.Answers.{bears, fills, worked-is, tells, line-worked, line_refused}
+use Rattle.wall.proofs.Answers.{bears, fills, worked_is, tells, line_worked, line_refused}
 use Rattle.wall.proofs.line.Goals.{After-is_worked, After-worked, Else-not-is_worked}
 use Rattle.wall.proofs.line.Goals as goal
 
@@ -33,7 +33,7 @@ worked-requires c = let f = fitted (goal.at.worked-requires c).Else-not-is_worke
 numbers : (c : After-worked) → let start = c.before.before.before.before.before in
     numbers_by start.args.number start.args.wall c.worked.result ≡ line start.args.number start.args.wall start.args.loads
 unfolding line
-numbers c = rw (c.worked.ensures, c.blocks-borne.ensures, worked-is _ _ (fitted c.before))
+numbers c = rw (c.worked.ensures, c.blocks-borne.ensures, worked_is _ _ (fitted c.before))
 
 pub numbers_of-requires : goal.numbers_of-requires
 numbers_of-requires c =
@@ -42,4 +42,4 @@ numbers_of-requires c =
 pub returns : goal.returns
 returns c =
     rw (c.numbers_of.ensures, numbers (goal.at.returns c).After-worked, c.blocks-borne.ensures)
-    (line-worked _ _ (accepted (goal.at.returns c).Else-not-is_worked) _)
+    (line_worked _ _ (accepted (goal.at.returns c).Else-not-is_worked) _)

@@ -11,14 +11,14 @@ use Rattle.forces.proofs.sliding.friction_under.Goals.{After-above_zero}
 use Rattle.forces.proofs.sliding.friction_under.Goals as goal
 
 -- what is multiplied is the part above 0 of what lasts
-lasting-is : (c : After-above_zero) → c.above_zero.result ≡ above_zero c.args.lasting
-lasting-is c = c.above_zero.ensures ∙ ap above_zero (to_z-of_z c.ranges.lasting)
+lasting_is : (c : After-above_zero) → c.above_zero.result ≡ above_zero c.args.lasting
+lasting_is c = c.above_zero.ensures ∙ ap above_zero (to_z-of_z c.ranges.lasting)
 
 pub overflow_mul-field : goal.overflow_mul-field
 overflow_mul-field c =
     let start = c in
-    two_fit (omega (arith, lasting-is (goal.at.overflow_mul-field c).After-above_zero, above_most _ start.requires.1, wall_within _ start.requires.0))
+    two_fit (omega (arith, lasting_is (goal.at.overflow_mul-field c).After-above_zero, above_most _ start.requires.1, wall_within _ start.requires.0))
 
 pub returns : goal.returns
 unfolding friction_under
-returns c = rw (lasting-is (goal.at.returns c).After-above_zero, c.field.ensures.0) at c.rounded_down.ensures
+returns c = rw (lasting_is (goal.at.returns c).After-above_zero, c.field.ensures.0) at c.rounded_down.ensures

@@ -12,24 +12,24 @@ use Rattle.forces.proofs.sliding.held.Goals.{After-above_zero-push, After-fricti
 use Rattle.forces.proofs.sliding.held.Goals as goal
 
 -- what the two calls with a signed number give, of the number itself
-friction-is : (c : After-friction_under-friction) → c.friction_under-friction.result ≡ friction_under c.args.wall c.args.lasting
-friction-is c = c.friction_under-friction.ensures ∙ ap (friction_under _) (to_z-of_z c.ranges.lasting)
+friction_is : (c : After-friction_under-friction) → c.friction_under-friction.result ≡ friction_under c.args.wall c.args.lasting
+friction_is c = c.friction_under-friction.ensures ∙ ap (friction_under _) (to_z-of_z c.ranges.lasting)
 
-push-is : (c : After-above_zero-push) → c.above_zero-push.result ≡ above_zero c.args.pushing
-push-is c = c.above_zero-push.ensures ∙ ap above_zero (to_z-of_z c.ranges.pushing)
+push_is : (c : After-above_zero-push) → c.above_zero-push.result ≡ above_zero c.args.pushing
+push_is c = c.above_zero-push.ensures ∙ ap above_zero (to_z-of_z c.ranges.pushing)
 
 pub overflow_add-holding : goal.overflow_add-holding
 overflow_add-holding c =
     let w = wall_within _ c.requires.0 in
-    omega (arith, friction-is (goal.at.overflow_add-holding c).After-friction_under-friction, passive_most w, friction_most w c.requires.1)
+    omega (arith, friction_is (goal.at.overflow_add-holding c).After-friction_under-friction, passive_most w, friction_most w c.requires.1)
 
 pub returns-then-field-eq-PROPPED : goal.returns-then-field-eq-PROPPED
 unfolding sliding_under is_propped
 returns-then-field-eq-PROPPED c =
     rw (
       c.excess.ensures,
-      push-is (goal.at.returns-then-field-eq-PROPPED c).After-above_zero-push,
-      friction-is (goal.at.returns-then-field-eq-PROPPED c).After-friction_under-friction,
+      push_is (goal.at.returns-then-field-eq-PROPPED c).After-above_zero-push,
+      friction_is (goal.at.returns-then-field-eq-PROPPED c).After-friction_under-friction,
       c.passive_force-passive.ensures,
       ← c.field.ensures.0,
       eq-eqb _ _ c.if-field-eq-PROPPED.true,
@@ -40,8 +40,8 @@ pub returns-else-field-eq-PROPPED : goal.returns-else-field-eq-PROPPED
 unfolding sliding_under is_propped
 returns-else-field-eq-PROPPED c =
     rw (
-      push-is (goal.at.returns-else-field-eq-PROPPED c).After-above_zero-push,
-      friction-is (goal.at.returns-else-field-eq-PROPPED c).After-friction_under-friction,
+      push_is (goal.at.returns-else-field-eq-PROPPED c).After-above_zero-push,
+      friction_is (goal.at.returns-else-field-eq-PROPPED c).After-friction_under-friction,
       c.passive_force-passive.ensures,
       ← c.field.ensures.0,
       ne_eqb _ _ c.if-field-eq-PROPPED.false,

@@ -17,8 +17,8 @@ use Rattle.forces.proofs.stem.stem_action.Goals.{After-table_of_stem-table}
 use Rattle.forces.proofs.stem.stem_action.Goals as goal
 
 -- the stem's components can be summed
-table-small : (c : After-table_of_stem-table) → Small c.table_of_stem-table.result c.args.sorts
-table-small c = small (stem_summable _ _ (fit _ _ c.requires.0)) c.table_of_stem-table.ensures c.requires.1
+table_small : (c : After-table_of_stem-table) → Small c.table_of_stem-table.result c.args.sorts
+table_small c = small (stem_summable _ _ (fit _ _ c.requires.0)) c.table_of_stem-table.ensures c.requires.1
 
 -- the code's sum of a column, read back from its bits
 summed : (c : After-table_of_stem-table) {sum : ℤ} {weights : List ℤ} (column : ℕ)
@@ -42,7 +42,7 @@ pub table_of_stem-table-requires : goal.table_of_stem-table-requires
 table_of_stem-table-requires c = c.requires.0
 
 pub column_sum-shear-requires : goal.column_sum-shear-requires
-column_sum-shear-requires c = (omega arith, table-small (goal.at.column_sum-shear-requires c).After-table_of_stem-table, light tt)
+column_sum-shear-requires c = (omega arith, table_small (goal.at.column_sum-shear-requires c).After-table_of_stem-table, light tt)
 
 pub column_sum-moment-requires : goal.column_sum-moment-requires
-column_sum-moment-requires c = (omega arith, table-small (goal.at.column_sum-moment-requires c).After-table_of_stem-table, light tt)
+column_sum-moment-requires c = (omega arith, table_small (goal.at.column_sum-moment-requires c).After-table_of_stem-table, light tt)

@@ -43,8 +43,8 @@ module _ {table : List (List ℤ)} {sorts : List ℕ} {weights : List ℤ} {colu
   product : read weight *ℤ read cell ≡ weight *ℤ cell
   product = rw (back weight (omega (arith, sizes)), back cell (omega (arith, sizes)))
 
-  product-fits : SFits w64 (read weight *ℤ read cell)
-  product-fits = rw product (fits_abs (weight *ℤ cell) (omega (arith, sizes)))
+  product_fits : SFits w64 (read weight *ℤ read cell)
+  product_fits = rw product (fits_abs (weight *ℤ cell) (omega (arith, sizes)))
 
   next : sum +ℤ read (read weight *ℤ read cell) ≡ summed +ℤ weight *ℤ cell
   next = rw (passed.same, product, back (weight *ℤ cell) (omega (arith, sizes)))
@@ -52,9 +52,9 @@ module _ {table : List (List ℤ)} {sorts : List ℕ} {weights : List ℤ} {colu
   next_fits : SFits w64 (sum +ℤ read (read weight *ℤ read cell))
   next_fits = rw next (fits_abs (summed +ℤ weight *ℤ cell) (omega (arith, abs_add summed (weight *ℤ cell), sizes)))
 
-  all-summed : components ≤ i → sum ≡ weighted_sum table sorts weights column
+  all_summed : components ≤ i → sum ≡ weighted_sum table sorts weights column
   unfolding weighted_sum
-  all-summed h = let all : i ≡ components = omega arith in passed.same ∙ rw all
+  all_summed h = let all : i ≡ components = omega arith in passed.same ∙ rw all
 
 pub loop-i-init : goal.loop-i-init
 unfolding sum_to
@@ -73,10 +73,10 @@ pub bounds-weights-sorts : goal.bounds-weights-sorts
 bounds-weights-sorts c = omega (arith, c.loop-i.invariant.small.sorted c.loop-i.i)
 
 pub overflow_mul-sum : goal.overflow_mul-sum
-overflow_mul-sum c = product-fits c.loop-i.invariant
+overflow_mul-sum c = product_fits c.loop-i.invariant
 
 pub overflow_add-sum : goal.overflow_add-sum
 overflow_add-sum c = next_fits c.loop-i.invariant
 
 pub returns : goal.returns
-returns c = all-summed c.loop-i.invariant (omega arith)
+returns c = all_summed c.loop-i.invariant (omega arith)

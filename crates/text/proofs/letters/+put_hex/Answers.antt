@@ -4,20 +4,20 @@ use Rattle.rules.specs.SheetLine.{hex_digit, hex_digits}
 use Rattle.text.proofs.Placing.{nothing, then, within}
 use Rattle.text.proofs.letters.+put_hex.Goals as goal
 
-no-hex : (n : ℕ) → hex_digits 0 n ≡ []
+no_hex : (n : ℕ) → hex_digits 0 n ≡ []
 unfolding hex_digits
-no-hex n = refl
+no_hex n = refl
 
 -- the last digit stands behind those of the sixteenth
-last-hex : (places n : ℕ) → (places ≡ 0 → ⊥) → hex_digits places n ≡ hex_digits (places - 1) (n / 16) ++ hex_digit (n % 16) ∷ []
+last_hex : (places n : ℕ) → (places ≡ 0 → ⊥) → hex_digits places n ≡ hex_digits (places - 1) (n / 16) ++ hex_digit (n % 16) ∷ []
 unfolding hex_digits
-last-hex zero n some = absurd (some refl)
-last-hex (suc places) n some = rw sub-one
+last_hex zero n some = absurd (some refl)
+last_hex (suc places) n some = rw sub-one
 
 pub returns-then-places-eq0 : goal.returns-then-places-eq0
-returns-then-places-eq0 t c = rw (c.if-places-eq0.true, no-hex) nothing
+returns-then-places-eq0 t c = rw (c.if-places-eq0.true, no_hex) nothing
 
 pub returns : goal.returns
 returns t c =
-    rw (last-hex c.args.places c.args.n c.if-places-eq0.false)
+    rw (last_hex c.args.places c.args.n c.if-places-eq0.false)
     (within (then c.put_hex-next.ensures (rw c.hex_digit.ensures at c.put_byte.ensures)) (omega arith))

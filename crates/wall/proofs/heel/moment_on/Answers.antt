@@ -18,9 +18,9 @@ slab_most c =
     (square, mul-le-mul c.slab.ensures.1 square)
 
 -- the fill's
-fill-at : (c : After-field-2) → let start = c.before.before.before.before in
+fill_at : (c : After-field-2) → let start = c.before.before.before.before in
     (start.args.fill * (c.field.result + c.field-2.result) ≤ 40000000 * longest)
-fill-at c =
+fill_at c =
     let within = wall_within _ c.requires.0 in
     let light : c.args.fill ≤ 40000000 = omega (arith, c.requires.1, fill_most within) in
     let short : c.field.result + c.field-2.result ≤ longest = omega (arith, heel_arm_most within, c.field.ensures, c.field-2.ensures) in
@@ -37,10 +37,10 @@ pub overflow_mul-slab-2 : goal.overflow_mul-slab-2
 overflow_mul-slab-2 c = omega (arith, slab_most (goal.at.overflow_mul-slab-2 c).After-slab)
 
 pub overflow_mul-fill : goal.overflow_mul-fill
-overflow_mul-fill c = omega (arith, fill-at (goal.at.overflow_mul-fill c).After-field-2)
+overflow_mul-fill c = omega (arith, fill_at (goal.at.overflow_mul-fill c).After-field-2)
 
 pub overflow_mul-fill-2 : goal.overflow_mul-fill-2
-overflow_mul-fill-2 c = omega (arith, fill-at (goal.at.overflow_mul-fill-2 c).After-field-2)
+overflow_mul-fill-2 c = omega (arith, fill_at (goal.at.overflow_mul-fill-2 c).After-field-2)
 
 pub overflow_add-slab : goal.overflow_add-slab
-overflow_add-slab c = omega (arith, fill-at (goal.at.overflow_add-slab c).After-field-2, slab_most (goal.at.overflow_add-slab c).After-slab)
+overflow_add-slab c = omega (arith, fill_at (goal.at.overflow_add-slab c).After-field-2, slab_most (goal.at.overflow_add-slab c).After-slab)

@@ -8,11 +8,11 @@ use Rattle.rules.proofs.Lines.{arm_most}
 use Rattle.wall.proofs.toe.squared_arm.Goals.{After-twice_arm-arm}
 use Rattle.wall.proofs.toe.squared_arm.Goals as goal
 
-square-most : (c : After-twice_arm-arm) → squared c.twice_arm-arm.result ≤ squared longest
-square-most c = let short = (arm_most (wall_within _ c.requires)).0 in rw c.twice_arm-arm.ensures (mul-le-mul short short)
+square_most : (c : After-twice_arm-arm) → squared c.twice_arm-arm.result ≤ squared longest
+square_most c = let short = (arm_most (wall_within _ c.requires)).0 in rw c.twice_arm-arm.ensures (mul-le-mul short short)
 
 pub overflow_mul-result : goal.overflow_mul-result
-overflow_mul-result c = omega (arith, square-most (goal.at.overflow_mul-result c).After-twice_arm-arm)
+overflow_mul-result c = omega (arith, square_most (goal.at.overflow_mul-result c).After-twice_arm-arm)
 
 pub returns : goal.returns
-returns c = (cc, square-most (goal.at.returns c).After-twice_arm-arm)
+returns c = (cc, square_most (goal.at.returns c).After-twice_arm-arm)

@@ -10,8 +10,8 @@ use Rattle.rules.specs.WrittenFile.{file_of}
 use Rattle.rules.proofs.Bytes.{file_length}
 use Rattle.writing.proofs.written.is_short.Goals as goal
 
-what-is-left : (room end more all : ℕ) → end ≤ room → all ≡ end + more → ltb (room - end) more ≡ ltb room all
-what-is-left room end more all h e = go (ltb room all) refl
+what_is_left : (room end more all : ℕ) → end ≤ room → all ≡ end + more → ltb (room - end) more ≡ ltb room all
+what_is_left room end more all h e = go (ltb room all) refl
   where
     go : (short : Bool) → ltb room all ≡ short → ltb (room - end) more ≡ short
     go true t = lt-ltb (room - end) more (omega (arith, ltb-true room all t))
@@ -24,4 +24,4 @@ returns-then-room-end c =
     sym (lt-ltb lent.room (length (file_of lent.walls.now lent.loads.now)) (omega (arith, c.if-room-end.true, all)))
 
 pub returns : goal.returns
-returns c = let lent = c.args in what-is-left _ _ _ _ c.if-room-end.false (file_length lent.walls.now lent.loads.now)
+returns c = let lent = c.args in what_is_left _ _ _ _ c.if-room-end.false (file_length lent.walls.now lent.loads.now)
