@@ -2,8 +2,8 @@
  * The wall sheet for C and C++: the numbers of a job's sheet, its printed text, and the drawing of one of its walls; a job file written from
  * records, and one taken apart into them.
  *
- * The functions stand in target/staticlib/liboffice.a, which `rt staticlib office` makes for x86-64 Linux. They are written in Rattle
- * (crates/office), and each is proved to answer what its comment says for every job, buffer and number, and to return. They keep nothing
+ * The functions stand in target/staticlib/liboffice.a, which `./library` makes for x86-64 Linux. They are written in Rattle
+ * (crates/office_c), and each is proved to answer what its comment says for every job, buffer and number, and to return. They keep nothing
  * from one call to the next, allocate nothing, and call nothing but memcpy and memset, so threads may call them at the same time.
  *
  * The proofs can't see a caller in C. What each caller owes:

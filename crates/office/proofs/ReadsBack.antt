@@ -11,7 +11,7 @@ use lib.Ieee.{Float}
 use lib.ListN.{length}
 use Rattle.whole.proofs.Lists.{case}
 use Rattle.rules.specs.declared.Answer.{Answer}
-use Rattle.rules.specs.declared.Answer.TheVariants.{Worked, TooShort, WrongEdition, CountOutOfRange, WrongOffset, WrongLength, WallOutOfRange, LoadOutOfRange, NinthLoad, BufferTooShort, OutputTooShort, NoSuchWall, AngleOutOfRange}
+use Rattle.rules.specs.declared.Answer.TheVariants.{Worked, TooShort, WrongEdition, CountOutOfRange, WrongOffset, WrongLength, WallOutOfRange, LoadOutOfRange, NinthLoad, BufferTooShort, OutputTooShort, NoSuchWall}
 use Rattle.rules.specs.JobFile.{File, Wall, wall_fields, walls}
 use Rattle.rules.specs.Answered.{number, place, is_worked}
 use Rattle.rules.specs.SheetLine.{answer_to}
@@ -100,7 +100,6 @@ zero_if_worked (NinthLoad load) = above (NinthLoad load) (omega arith)
 zero_if_worked BufferTooShort = refl
 zero_if_worked OutputTooShort = refl
 zero_if_worked (NoSuchWall wall) = above (NoSuchWall wall) (omega arith)
-zero_if_worked AngleOutOfRange = refl
 
 -- so of a calculation, and of a job taken apart
 pub zero_is_worked : {file : File} {before after : List ℤ} {r : ℕ} → CalculatesPacked file before r after

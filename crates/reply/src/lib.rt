@@ -24,7 +24,6 @@ pub fn number_of(answer: Answer) -> u32
         Answer::BufferTooShort => 8,
         Answer::OutputTooShort => 9,
         Answer::NoSuchWall(_) => 18,
-        Answer::AngleOutOfRange => 11,
     }
 }
 
@@ -52,7 +51,6 @@ pub fn place_of(answer: Answer) -> u32
         Answer::BufferTooShort => 0,
         Answer::OutputTooShort => 0,
         Answer::NoSuchWall(wall) => wall,
-        Answer::AngleOutOfRange => 0,
     }
 }
 

@@ -2,7 +2,7 @@
 use Prim.Native.Nat.{◌<◌}
 use native.Mathlib.Omega.{arith}
 use Rattle.rules.specs.declared.Answer.{Answer}
-use Rattle.rules.specs.declared.Answer.TheVariants.{Worked, TooShort, WrongEdition, CountOutOfRange, WrongOffset, WrongLength, WallOutOfRange, LoadOutOfRange, NinthLoad, BufferTooShort, OutputTooShort, NoSuchWall, AngleOutOfRange}
+use Rattle.rules.specs.declared.Answer.TheVariants.{Worked, TooShort, WrongEdition, CountOutOfRange, WrongOffset, WrongLength, WallOutOfRange, LoadOutOfRange, NinthLoad, BufferTooShort, OutputTooShort, NoSuchWall}
 use Rattle.rules.specs.Answered.{number}
 
 -- 18 is the last number in the table of refusals
@@ -19,4 +19,3 @@ number_below (NinthLoad load) = omega arith
 number_below BufferTooShort = omega arith
 number_below OutputTooShort = omega arith
 number_below (NoSuchWall wall) = omega arith
-number_below AngleOutOfRange = omega arith

@@ -1,7 +1,7 @@
 -- Document 01, "What is answered", as request #102 of document 02 has it: each answer's number and place, and the first refusal of a job file in the order of the tests.
 use Rattle.std.specs.Prelude.{ℕ, suc, ◌+◌, ◌-◌, ◌*◌, Bool, not, ◌&&◌, cond, List, [], ◌∷◌, ◌++◌, leb, ltb, eqb, length, get_or}
 use Rattle.rules.specs.declared.Answer.{Answer}
-use Rattle.rules.specs.declared.Answer.TheVariants.{Worked, TooShort, WrongEdition, CountOutOfRange, WrongOffset, WrongLength, WallOutOfRange, LoadOutOfRange, NinthLoad, BufferTooShort, OutputTooShort, NoSuchWall, AngleOutOfRange}
+use Rattle.rules.specs.declared.Answer.TheVariants.{Worked, TooShort, WrongEdition, CountOutOfRange, WrongOffset, WrongLength, WallOutOfRange, LoadOutOfRange, NinthLoad, BufferTooShort, OutputTooShort, NoSuchWall}
 use Rattle.rules.specs.JobFile.{File, Wall, Entry, header_bytes, this_edition, edition, wall_count, first_wall_offset, load_count, first_load_offset, whole_length, entry_bytes, most_walls, most_loads, most_loads_on_wall, entries_at, walls, entries, first_bad_field, wall_fits, wall_of, load_of, load_fits, loads_on}
 
 -- a refusal's number; 0 says that the job is worked
@@ -18,7 +18,6 @@ number (NinthLoad load) = 7
 number BufferTooShort = 8
 number OutputTooShort = 9
 number (NoSuchWall wall) = 18
-number AngleOutOfRange = 11
 
 -- its place; a wall and its field have one together
 abbrev pub place : Answer → ℕ
@@ -34,7 +33,6 @@ place (NinthLoad load) = load
 place BufferTooShort = 0
 place OutputTooShort = 0
 place (NoSuchWall wall) = wall
-place AngleOutOfRange = 0
 
 abbrev pub is_worked : Answer → Bool
 is_worked answer = eqb (number answer) 0

@@ -1,12 +1,10 @@
 -- Document 02, "#108 Coefficients from the angle": the sine of an angle, the coefficients K0 and Ka that it gives, and how these are printed. Angles are in tenths of a degree.
-use Rattle.std.specs.Prelude.{ℕ, zero, suc, ◌+◌, ◌-◌, ◌*◌, Bool, not, ◌&&◌, cond, List, [], ◌∷◌, ◌++◌, leb}
+use Rattle.std.specs.Prelude.{ℕ, zero, suc, ◌+◌, ◌-◌, ◌*◌, Bool, ◌&&◌, cond, List, [], ◌∷◌, ◌++◌, leb}
 use Prim.Native.Char.{code}
 use Rattle.whole.specs.Rounding.{rounded_up, rounded_down, rounded_nearest}
-use Rattle.rules.specs.declared.Answer.TheVariants.{AngleOutOfRange}
 use Rattle.rules.specs.declared.Coefficients.{Coefficients}
 use Rattle.rules.specs.declared.Sine.{Sine}
-use Rattle.rules.specs.Answered.{is_worked, refused_if}
-use Rattle.rules.specs.SheetLine.{ascii, decimal, refusal_text}
+use Rattle.rules.specs.SheetLine.{ascii, decimal}
 
 -- ---- sines and cosines, between bounds
 
@@ -64,7 +62,7 @@ most_turned = 900
 unfoldable pub sine_of : ℕ → Sine
 sine_of angle =
     let isInTable = leb angle most_turned in
-    record { answer = refused_if (not isInTable) AngleOutOfRange; millionths = cond isInTable (sine angle) 0 }
+    record { in_range = isInTable; millionths = cond isInTable (sine angle) 0 }
 
 -- K0 = 1 - sine, in thousandths rounded up
 unfoldable pub at_rest : ℕ → ℕ
@@ -81,7 +79,7 @@ is_soil angle = leb 1 angle && leb angle 450
 unfoldable pub coefficients_of : ℕ → Coefficients
 coefficients_of angle =
     record {
-      answer = refused_if (not (is_soil angle)) AngleOutOfRange;
+      in_range = is_soil angle;
       rest = cond (is_soil angle) (at_rest (sine angle)) 0;
       active = cond (is_soil angle) (active (sine angle)) 0;
     }
@@ -91,5 +89,9 @@ coefficients_of angle =
 unfoldable pub named_text : ℕ → ℕ → List ℕ
 named_text rest active = ascii "K0 " ++ decimal rest ++ ascii " Ka " ++ decimal active ++ code "\n" ∷ []
 
+-- 11, with place 0
+unfoldable pub refused_text : List ℕ
+refused_text = ascii "refused 11 0" ++ code "\n" ∷ []
+
 unfoldable pub coefficients_text : Coefficients → List ℕ
-coefficients_text c = cond (is_worked c.answer) (named_text c.rest c.active) (refusal_text c.answer)
+coefficients_text c = cond c.in_range (named_text c.rest c.active) refused_text

@@ -43,7 +43,6 @@ pub enum Answer {
     OutputTooShort,
     // the number that was asked for
     NoSuchWall(u32),
-    AngleOutOfRange,
 }
 
 // What is answered where a job file is written: the answer, and how many bytes were written; a refusal writes none.
@@ -221,17 +220,17 @@ pub struct WallLine {
     pub numbers: LineNumbers,
 }
 
-// What is answered of an angle: its sine in millionths; a refusal has 0.
+// What is answered of an angle: is it within the table, and its sine in millionths; 0 where it isn't.
 #[derive(Clone, Copy)]
 pub struct Sine {
-    pub answer: Answer,
+    pub in_range: bool,
     pub millionths: u32,
 }
 
-// What is answered of a soil's angle: the coefficients at rest and active, K0 and Ka, in thousandths; a refusal has 0 for both.
+// What is answered of a soil's angle: has a soil such an angle, and the coefficients at rest and active, K0 and Ka, in thousandths; 0 for both where none has.
 #[derive(Clone, Copy)]
 pub struct Coefficients {
-    pub answer: Answer,
+    pub in_range: bool,
     pub rest: u32,
     pub active: u32,
 }

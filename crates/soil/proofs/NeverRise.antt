@@ -8,7 +8,6 @@ use borrow.Author.Tests.{le-leb}
 use lib.Dec.{leb, leb→le}
 use Rattle.whole.specs.Rounding.{rounded_up, rounded_down, rounded_nearest}
 use Rattle.whole.proofs.Rounded.{up_mono, up_across}
-use Rattle.rules.specs.declared.Answer.TheVariants.{Worked}
 use Rattle.rules.specs.Coefficients.{million, sine, at_rest, active, is_soil, coefficients_of, turned, turned_by}
 use Rattle.rules.proofs.Accepted.{both}
 use Rattle.soil.proofs.Sines.{grows}
@@ -17,7 +16,7 @@ use Rattle.soil.proofs.Sines.{grows}
 pub soil_from : (angle : ℕ) → is_soil angle ≡ true → (1 ≤ angle) × (angle ≤ 450)
 soil_from angle e = let h = both (leb 1 angle) (leb angle 450) (rw e tt) in (leb→le _ _ h.0, leb→le _ _ h.1)
 
-pub at_24_2 : coefficients_of 242 ≡ record { answer = Worked; rest = 591; active = 419 }
+pub at_24_2 : coefficients_of 242 ≡ record { in_range = true; rest = 591; active = 419 }
 unfolding coefficients_of at_rest active sine turned turned_by rounded_up rounded_down rounded_nearest
 at_24_2 = refl
 

@@ -7,7 +7,7 @@ mod table;
 ghost use Rattle.std.specs.Prelude.{◌≡◌, ◌≤◌};
 ghost use Rattle.rules.specs.Coefficients.{million, sine_of, at_rest, active, is_soil, coefficients_of};
 
-use rules::{Answer, Coefficients, Sine};
+use rules::{Coefficients, Sine};
 use table::LAST_ANGLE;
 
 // What a sine of 1 is, in millionths.
@@ -27,13 +27,13 @@ pub fn sine(angle: u16) -> Sine
 {
     if LAST_ANGLE < angle {
         return Sine {
-            answer: Answer::AngleOutOfRange,
+            in_range: false,
             millionths: 0,
         };
     }
     let millionths = table::sine_at(angle);
     Sine {
-        answer: Answer::Worked,
+        in_range: true,
         millionths: millionths,
     }
 }
@@ -67,7 +67,7 @@ pub fn coefficients(angle: u16) -> Coefficients
 {
     if !is_soil(angle) {
         return Coefficients {
-            answer: Answer::AngleOutOfRange,
+            in_range: false,
             rest: 0,
             active: 0,
         };
@@ -76,7 +76,7 @@ pub fn coefficients(angle: u16) -> Coefficients
     let rest = rest_by(sine);
     let active = active_by(sine);
     Coefficients {
-        answer: Answer::Worked,
+        in_range: true,
         rest: rest,
         active: active,
     }

@@ -67,9 +67,8 @@ pub fn coefficients_text(soil: Coefficients, out: &mut [u8]) -> usize
     if out.len() < LINE_ROOM {
         return 0;
     }
-    let answer = soil.answer;
-    if !reply::is_worked(answer) {
-        return refusal_text(answer, out);
+    if !soil.in_range {
+        return coefficients::put_refused(out);
     }
     coefficients::put_named(soil.rest, soil.active, out)
 }

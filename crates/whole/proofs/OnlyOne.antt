@@ -1,7 +1,7 @@
 -- No second answer fits a contract, and what is lent ends in one way; and the contract asks nothing of a caller. Nothing is said here a second time: each theorem names what
 -- the prover itself reads off a function, its signature (`ended`), its `requires` (`Reads.Asked`) and its `ensures` (`Reads.Learnt`).
 --     Once ended Asked Learnt   any call may be made, and two outcomes of one call that both fit are equal
---     by-equation               of a function that is lent nothing to write, whose answer equals a value
+--     by_equation               of a function that is lent nothing to write, whose answer equals a value
 --     agree                     what equals a value is the only one that does
 --     lent, past, also          last values that differ in a parameter alone: `lent` at that parameter, and a `past` for each in front of it, or an `also` where that differs too
 use mathlib.Core.Path.{◌≡◌, refl, sym, ◌∙◌}

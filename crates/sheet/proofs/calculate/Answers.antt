@@ -1,11 +1,7 @@
 -- `sheet::calculate` meets its contract.
-use Prim.Native.Nat.{◌*◌, ◌≤◌}
 use mathlib.Core.Path.{◌≡◌}
 use mathlib.Core.Bool.{true}
-use lib.ListN.{length}
-use Rattle.rules.specs.JobFile.{wall_count}
 use Rattle.rules.specs.Answered.{accepted}
-use Rattle.rules.specs.SheetLine.{line_numbers}
 use Rattle.sheet.proofs.Outcomes.{refused, passed, job_refused, too_short, all_worked}
 use Rattle.sheet.proofs.calculate.Goals.{Else-not-is_worked, Else-out-walls}
 use Rattle.sheet.proofs.calculate.Goals as goal
@@ -22,12 +18,12 @@ worked c = passed c.first_refusal-first.ensures c.is_worked.ensures c.if-not-is_
 pub returns-then-out-walls : goal.returns-then-out-walls
 returns-then-out-walls c = too_short _ _ (worked (goal.at.returns-then-out-walls c).Else-not-is_worked) (rw (← c.wall_count-walls.ensures) c.if-out-walls.true)
 
--- and the buffer has the room
-room : (c : Else-out-walls) → let args = c.args in line_numbers * wall_count args.job.now ≤ length args.out.now
-room c = rw (← c.wall_count-walls.ensures) c.if-out-walls.false
-
 pub returns : goal.returns
-returns c = let tested = c in all_worked _ _ (worked (goal.at.returns c).Else-not-is_worked) (room (goal.at.returns c).Else-out-walls) c.put_lines.ensures
+returns c =
+    let room = (goal.at.returns c).Else-out-walls in
+    all_worked _ _ (worked (goal.at.returns c).Else-not-is_worked) (rw (← room.wall_count-walls.ensures) room.if-out-walls.false) c.put_lines.ensures
 
 pub put_lines-requires : goal.put_lines-requires
-put_lines-requires c = (rw (worked (goal.at.put_lines-requires c).Else-not-is_worked) tt, room (goal.at.put_lines-requires c).Else-out-walls)
+put_lines-requires c =
+    let room = (goal.at.put_lines-requires c).Else-out-walls in
+    (rw (worked (goal.at.put_lines-requires c).Else-not-is_worked) tt, rw (← room.wall_count-walls.ensures) room.if-out-walls.false)

@@ -1,11 +1,9 @@
 -- `sheet::rewrite` meets its contract.
-use Prim.Native.Nat.{◌≤◌}
 use mathlib.Core.Path.{sym, ◌∙◌}
 use mathlib.Core.Bool.{not}
 use native.Mathlib.Omega.{arith}
 use borrow.Author.Tests.{not-true, not-false}
 use lib.Dec.{T}
-use lib.ListN.{length}
 use lib.Seq.{length-take-le}
 use Rattle.rules.specs.Answered.{is_worked}
 use Rattle.rules.specs.Beyond.{line_room}
@@ -19,25 +17,23 @@ use Rattle.sheet.proofs.rewrite.Goals as goal
 pub returns-then-out-lt-FILE_ROOM : goal.returns-then-out-lt-FILE_ROOM
 returns-then-out-lt-FILE_ROOM c = put_nothing _ _ c.if-out-lt-FILE_ROOM.true
 
--- there is room for any file
-room : (c : After-take_apart-taken) → file_room ≤ length c.args.out.now
-room c = c.if-out-lt-FILE_ROOM.false
-
 pub returns-then-not-is_worked : goal.returns-then-not-is_worked
 returns-then-not-is_worked c =
     let taken = (goal.at.returns-then-not-is_worked c).After-take_apart-taken in
+    let room = (goal.at.returns-then-not-is_worked c).After-take_apart-taken.if-out-lt-FILE_ROOM.false in
     let refused : T (not (is_worked taken.take_apart-taken.result.answer)) = rw (sym c.is_worked.ensures ∙ not-true _ c.if-not-is_worked.true-raw) tt in
-    put_fitting file_room _ (room (goal.at.returns-then-not-is_worked c).After-take_apart-taken)
+    put_fitting file_room _ room
     (rw (← refusal_printed taken.take_apart-taken.ensures (omega arith) (omega arith) refused)
-    (put_whole line_room _ (omega (arith, room taken)) c.refusal_text.ensures))
+    (put_whole line_room _ (omega (arith, room)) c.refusal_text.ensures))
 
 pub returns : goal.returns
 returns c =
     let taken = (goal.at.returns c).After-take_apart-taken in
+    let room = (goal.at.returns c).After-take_apart-taken.if-out-lt-FILE_ROOM.false in
     let apart = taken.take_apart-taken.ensures in
     let worked : T (is_worked taken.take_apart-taken.result.answer) = rw (sym c.is_worked.ensures ∙ not-false _ c.if-not-is_worked.false-raw) tt in
     let small = rewritten_small _ (records_taken apart worked).0 in
-    put_fitting file_room _ (room (goal.at.returns c).After-take_apart-taken) (written_again apart worked c.write-written.ensures (omega (arith, small, room taken))).1
+    put_fitting file_room _ room (written_again apart worked c.write-written.ensures (omega (arith, small, room))).1
 
 pub slice_bounds-walls-end : goal.slice_bounds-walls-end
 slice_bounds-walls-end c = put_within c.take_apart-taken.ensures.walls_put

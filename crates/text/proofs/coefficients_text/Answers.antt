@@ -1,28 +1,17 @@
 -- `text::coefficients_text` meets its contract.
-use mathlib.Core.Path.{◌≡◌, sym, ◌∙◌}
-use mathlib.Core.Bool.{true, false}
 use borrow.Author.Tests.{not-true, not-false}
-use Rattle.rules.specs.Answered.{is_worked}
 use Rattle.rules.specs.Coefficients.{coefficients_text}
 use Rattle.rules.proofs.Fitting.{put_nothing, put_fitting}
-use Rattle.text.proofs.coefficients_text.Goals.{Else-not-is_worked, Then-not-is_worked}
 use Rattle.text.proofs.coefficients_text.Goals as goal
-
-refused : (c : Then-not-is_worked) → is_worked c.args.soil.answer ≡ false
-refused c = sym c.is_worked.ensures ∙ not-true _ c.if-not-is_worked.true-raw
-
-worked : (c : Else-not-is_worked) → is_worked c.args.soil.answer ≡ true
-worked c = sym c.is_worked.ensures ∙ not-false _ c.if-not-is_worked.false-raw
 
 pub returns-then-out-lt-LINE_ROOM : goal.returns-then-out-lt-LINE_ROOM
 unfolding coefficients_text
 returns-then-out-lt-LINE_ROOM c = put_nothing _ _ c.if-out-lt-LINE_ROOM.true
 
-pub returns-then-not-is_worked : goal.returns-then-not-is_worked
+pub returns-then-not-soil : goal.returns-then-not-soil
 unfolding coefficients_text
-returns-then-not-is_worked c = rw (refused (goal.at.returns-then-not-is_worked c).Then-not-is_worked) c.refusal_text.ensures
+returns-then-not-soil c = rw (not-true _ c.if-not-soil.true) (put_fitting _ _ c.if-out-lt-LINE_ROOM.false c.put_refused.ensures)
 
 pub returns : goal.returns
 unfolding coefficients_text
-returns c =
-    rw (worked (goal.at.returns c).Else-not-is_worked) (put_fitting _ _ c.if-out-lt-LINE_ROOM.false c.put_named.ensures)
+returns c = rw (not-false _ c.if-not-soil.false) (put_fitting _ _ c.if-out-lt-LINE_ROOM.false c.put_named.ensures)
