@@ -16,6 +16,9 @@ const BUFFER: usize = 65536;
 // So much of an argument is read: no path is longer.
 const NAME: usize = 4096;
 
+// The system's number for the error that a name is longer.
+const NAME_TOO_LONG: i32 = 36;
+
 // Reads until the buffer is full or the input ends, and answers how many bytes stand in it.
 fn read_full<R: Read + Drop>(input: R, buffer: &mut [u8]) -> io::Result<usize>
     ensures { IfOk result (λ n. n ≤ length buffer.new) }
@@ -66,7 +69,7 @@ fn tell_unread<R: Print + Eprint>(
     name: &str,
     why: &io::Error,
 ) -> io::Result<()> {
-    eprintln!(rt; "argument {number}, {name}: {why}")?;
+    let _ = eprintln!(rt; "argument {number}, {name}: {why}");
     println!(rt; "unread {number}")
 }
 
@@ -107,7 +110,15 @@ fn main(rt: HostRuntime) -> io::Result<()> {
         let mut name = [0u8; NAME];
         let is_same = match rt.arg(number, &mut name) {
             Ok(length) => print_named(&rt, number, &name[..length])?,
-            Err(FillError::TooLong) => print_named(&rt, number, &name)?,
+            Err(FillError::TooLong) => {
+                tell_unread(
+                    &rt,
+                    number,
+                    "",
+                    &io::Error::from_raw_os_error(NAME_TOO_LONG),
+                )?;
+                false
+            }
             Err(FillError::NotPresent) => break,
         };
         if is_same {
