@@ -1,7 +1,5 @@
 -- `casebook::are_same` is safe and ends: the files are of one length, and each turn leaves one byte fewer.
 use mathlib.Core.Path.{◌≡◌}
-use Prim.Native.Nat.{◌-◌}
-use native.Mathlib.Omega.{arith}
 use lib.ListN.{length}
 use Rattle.casebook.proofs.are_same.Given as goal
 

@@ -1,6 +1,5 @@
 -- `casebook::is_same_again` is safe: the file that it writes ends within the buffer.
 use mathlib.Core.Path.{sym}
-use borrow.Author.Rules.{rules}
 use lib.Seq.{length-take-le}
 use Rattle.rules.proofs.Putting.{put_within}
 use Rattle.casebook.proofs.is_same_again.Goals as goal

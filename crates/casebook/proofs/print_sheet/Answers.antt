@@ -1,6 +1,5 @@
 -- `casebook::print_sheet` is safe: the text that it writes ends within the buffer.
 use mathlib.Core.Path.{sym}
-use borrow.Author.Rules.{rules}
 use lib.Seq.{length-take-le}
 use Rattle.rules.proofs.Putting.{put_within}
 use Rattle.casebook.proofs.print_sheet.Goals as goal

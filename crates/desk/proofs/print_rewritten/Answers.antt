@@ -1,6 +1,5 @@
 -- `desk::print_rewritten` is safe: what it writes ends within the buffer.
 use mathlib.Core.Path.{sym}
-use borrow.Author.Rules.{rules}
 use lib.Seq.{length-take-le}
 use Rattle.rules.proofs.Putting.{put_within}
 use Rattle.desk.proofs.print_rewritten.Goals as goal

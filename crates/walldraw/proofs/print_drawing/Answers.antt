@@ -1,6 +1,5 @@
 -- `walldraw::print_drawing` is safe: the line that it writes ends within the buffer.
 use mathlib.Core.Path.{sym}
-use borrow.Author.Rules.{rules}
 use lib.Seq.{length-take-le}
 use Rattle.rules.proofs.Putting.{put_within}
 use Rattle.walldraw.proofs.print_drawing.Goals as goal

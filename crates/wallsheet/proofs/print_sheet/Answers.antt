@@ -1,6 +1,5 @@
 -- `wallsheet::print_sheet` is safe: the text that it writes ends within the buffer.
 use mathlib.Core.Path.{sym}
-use borrow.Author.Rules.{rules}
 use lib.Seq.{length-take-le}
 use Rattle.rules.proofs.Putting.{put_within}
 use Rattle.wallsheet.proofs.print_sheet.Goals as goal

@@ -1,6 +1,5 @@
 -- `desk::commands::command_of` meets its contract.
 use mathlib.Core.Path.{sym, ◌∙◌}
-use borrow.Author.Rules.{rules}
 use Rattle.desk.specs.Commands.{command_of}
 use Rattle.desk.proofs.commands.command_of.Goals as goal
 

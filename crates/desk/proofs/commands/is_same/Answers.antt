@@ -1,8 +1,7 @@
 -- `desk::commands::is_same` meets its contract. The invariant: the bytes before the index are the same.
 use mathlib.Core.Path.{sym}
-use Prim.Native.Nat.{◌-◌}
 use native.Mathlib.Omega.{arith}
-use Rattle.desk.proofs.Words.{other_length, Alike, none_compared, one_unlike, one_alike, all_alike}
+use Rattle.desk.proofs.Words.{other_length, none_compared, one_unlike, one_alike, all_alike}
 use Rattle.desk.proofs.commands.is_same.Goals as goal
 
 pub returns-then-one-other : goal.returns-then-one-other

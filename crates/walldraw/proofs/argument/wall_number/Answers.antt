@@ -1,10 +1,10 @@
 -- `walldraw::argument::wall_number` meets its contract. The invariant: the bytes passed are digits, and the value is what they make.
 use mathlib.Core.Bool.{and-false}
-use Prim.Native.Nat.{◌-◌, ◌^◌}
+use Prim.Native.Nat.{◌^◌}
 use native.Mathlib.Omega.{arith}
 use borrow.Author.Tests.{le-leb, lt-leb, le-ltb, lt-ltb}
 use Rattle.walldraw.specs.Argument.{is_number, asked_for}
-use Rattle.walldraw.proofs.Digits.{Passed, none_passed, small, one_more, not_all, all_digits, all_made}
+use Rattle.walldraw.proofs.Digits.{none_passed, small, one_more, not_all, all_digits, all_made}
 use Rattle.walldraw.proofs.argument.wall_number.Goals as goal
 
 pub returns-then-count-lt1 : goal.returns-then-count-lt1
