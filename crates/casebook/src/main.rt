@@ -19,15 +19,6 @@ const NAME: usize = 4096;
 // The system's number for the error that a name is longer.
 const NAME_TOO_LONG: i32 = 36;
 
-// Reads until the buffer is full or the input ends, and answers how many bytes stand in it.
-fn read_full<R: Read + Drop>(input: R, buffer: &mut [u8]) -> io::Result<usize>
-    ensures { IfOk result (λ n. n ≤ length buffer.new) }
-{
-    let room = buffer.len();
-    let count = io::copy(&mut input.take(room as u64), &mut &mut *buffer)?;
-    Ok(room.min(count as usize))
-}
-
 // The sheet of a job.
 fn print_sheet<W: Write>(job: &[u8], out: &mut W) -> io::Result<()> {
     let mut text = [0u8; BUFFER];
@@ -35,49 +26,39 @@ fn print_sheet<W: Write>(job: &[u8], out: &mut W) -> io::Result<()> {
     out.write_all(&text[..count])
 }
 
-// Are two files the same?
-fn are_same(one: &[u8], other: &[u8]) -> bool {
-    if one.len() != other.len() {
-        return false;
-    }
-    for i in 0..one.len() {
-        if one[i] != other[i] {
-            return false;
-        }
-    }
-    true
-}
-
 // Is a job the same when it is taken apart and written again?
 fn is_same_again(job: &[u8]) -> bool {
     let mut file = [0u8; BUFFER];
     let count = sheet::rewrite(job, &mut file);
-    are_same(job, &file[..count])
+    job == &file[..count]
 }
 
 // The sheet of a job, and whether it was written again byte for byte; one that is refused isn't written.
 fn print_job<W: Write>(job: &[u8], out: &mut W) -> io::Result<bool> {
-    let is_accepted = reply::is_worked(job::first_refusal(job));
+    let is_accepted = job::first_refusal(job).is_ok();
     print_sheet(job, out)?;
-    Ok(is_accepted & is_same_again(job))
+    Ok(is_accepted && is_same_again(job))
 }
 
-// Says why the file that this argument names has no sheet.
+// Says why the file that this argument names has no sheet; such a file isn't written again.
 fn tell_unread<R: Print + Eprint>(
     rt: &R,
     number: usize,
     name: &str,
     why: &io::Error,
-) -> io::Result<()> {
+) -> io::Result<bool> {
     let _ = eprintln!(rt; "argument {number}, {name}: {why}");
-    println!(rt; "unread {number}")
+    println!(rt; "unread {number}")?;
+    Ok(false)
 }
 
-// Reads the file of this name.
+// Reads the file of this name until the buffer is full or the file ends, and answers how many bytes stand in it.
 fn read_file<R: Files>(rt: &R, name: &str, job: &mut [u8]) -> io::Result<usize>
     ensures { IfOk result (λ n. n ≤ length job.new) }
 {
-    read_full(fs::open(rt, name)?, job)
+    let room = job.len();
+    let count = io::copy(&mut fs::open(rt, name)?.take(room as u64), &mut &mut *job)?;
+    Ok(room.min(count as usize))
 }
 
 // What is printed of the file that this argument names, and whether it was written again byte for byte.
@@ -85,10 +66,7 @@ fn print_file<R: Files + Print + Eprint>(rt: &R, number: usize, name: &str) -> i
     let mut job = [0u8; BUFFER];
     match read_file(rt, name, &mut job) {
         Ok(length) => print_job(&job[..length], &mut io::writer(rt)),
-        Err(why) => {
-            tell_unread(rt, number, name, &why)?;
-            Ok(false)
-        }
+        Err(why) => tell_unread(rt, number, name, &why),
     }
 }
 
@@ -98,8 +76,7 @@ fn print_named<R: Files + Print + Eprint>(rt: &R, number: usize, name: &[u8]) ->
         Ok(text) => print_file(rt, number, text),
         Err(_) => {
             let why = io::Error::from(io::ErrorKind::InvalidInput);
-            tell_unread(rt, number, "which is no text", &why)?;
-            Ok(false)
+            tell_unread(rt, number, "which is no text", &why)
         }
     }
 }
@@ -111,13 +88,8 @@ fn main(rt: HostRuntime) -> io::Result<()> {
         let is_same = match rt.arg(number, &mut name) {
             Ok(length) => print_named(&rt, number, &name[..length])?,
             Err(FillError::TooLong) => {
-                tell_unread(
-                    &rt,
-                    number,
-                    "",
-                    &io::Error::from_raw_os_error(NAME_TOO_LONG),
-                )?;
-                false
+                let why = io::Error::from_raw_os_error(NAME_TOO_LONG);
+                tell_unread(&rt, number, "", &why)?
             }
             Err(FillError::NotPresent) => break,
         };

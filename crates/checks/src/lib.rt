@@ -13,46 +13,25 @@ use rules::{Block, Check, Kind, Member, Totals, WorkedWall};
 // N/m2 in a kN/m2.
 const PER_KILO: u64 = 1000;
 
-// How far to the left a check's bit stands.
+// How far to the left a check's bit stands: the checks are in the order of their bits.
 fn shift_of(check: Check) -> u32
     ensures { (2 ^ result ≡ bit check) × (result < 16) }
 {
-    match check {
-        Check::Slides => 0,
-        Check::Overturns => 1,
-        Check::OverAllowable => 2,
-        Check::NoServiceBlock => 3,
-        Check::NoFactoredBlock => 4,
-        Check::ToeSteel => 5,
-        Check::StemSteel => 6,
-        Check::Sheared => 7,
-        Check::HeelSteel => 8,
-    }
+    check as u32
 }
 
-// The failures with one check more, whose bit stands to the left of all that are set.
-fn with_check(failures: u16, check: Check, fails: bool) -> u16
-    requires { failures < bit check }
-    ensures { (result ≡ failures + cond fails (bit check) 0) × (result < 2 * bit check) }
+// A check's bit where the check fails, and else nothing.
+fn bit_if(fails: bool, check: Check) -> u16
+    ensures { result ≡ cond fails (bit check) 0 }
 {
-    if fails {
-        failures | (1u16 << shift_of(check))
-    } else {
-        failures
-    }
+    if fails { 1 << shift_of(check) } else { 0 }
 }
 
 // Is there a block?
 pub fn is_given(block: Block) -> bool
     ensures { result ≡ is_given block }
 {
-    let kind = block.kind;
-    match kind {
-        Kind::NoBlock => false,
-        Kind::Full => true,
-        Kind::FromToe => true,
-        Kind::FromHeel => true,
-    }
+    !matches!(block.kind, Kind::NoBlock)
 }
 
 // Mrest is less than Mot.
@@ -66,7 +45,7 @@ fn overturns(totals: Totals) -> bool
 fn is_over_allowable(wall: Wall, toe: u64, heel: u64) -> bool
     ensures { result ≡ ltb (1000 * allowable_bearing wall) (max toe heel) }
 {
-    PER_KILO * record::field(wall, ALLOWABLE_BEARING) < whole::greater(toe, heel)
+    PER_KILO * record::field(wall, ALLOWABLE_BEARING) < toe.max(heel)
 }
 
 // The toe fails in shear, or the stem does, or the heel.
@@ -76,24 +55,21 @@ fn is_sheared(toe: Member, stem: Member, heel: Member) -> bool
     toe.sheared | stem.sheared | heel.sheared
 }
 
-// Every check of a wall that is worked, each set to the left of those before it.
+// The bits of the checks that a worked wall fails.
 pub fn failures_of(wall: Wall, worked: WorkedWall) -> u16
     ensures { result ≡ failures_by wall worked }
 {
-    let turned = overturns(worked.totals);
     let pressed = is_over_allowable(wall, worked.service.toe, worked.service.heel);
-    let stands = is_given(worked.service.block);
-    let stands_factored = is_given(worked.factored.block);
     let sheared = is_sheared(worked.toe, worked.stem, worked.heel);
-    let failures = with_check(0, Check::Slides, worked.sliding.slides);
-    let failures = with_check(failures, Check::Overturns, turned);
-    let failures = with_check(failures, Check::OverAllowable, pressed);
-    let failures = with_check(failures, Check::NoServiceBlock, !stands);
-    let failures = with_check(failures, Check::NoFactoredBlock, !stands_factored);
-    let failures = with_check(failures, Check::ToeSteel, worked.toe.steel.fails);
-    let failures = with_check(failures, Check::StemSteel, worked.stem.steel.fails);
-    let failures = with_check(failures, Check::Sheared, sheared);
-    with_check(failures, Check::HeelSteel, worked.heel.steel.fails)
+    bit_if(worked.sliding.slides, Check::Slides)
+        | bit_if(overturns(worked.totals), Check::Overturns)
+        | bit_if(pressed, Check::OverAllowable)
+        | bit_if(!is_given(worked.service.block), Check::NoServiceBlock)
+        | bit_if(!is_given(worked.factored.block), Check::NoFactoredBlock)
+        | bit_if(worked.toe.steel.fails, Check::ToeSteel)
+        | bit_if(worked.stem.steel.fails, Check::StemSteel)
+        | bit_if(sheared, Check::Sheared)
+        | bit_if(worked.heel.steel.fails, Check::HeelSteel)
 }
 
 // Do the two bytes of failures, as a line has them, have a check's bit?

@@ -4,8 +4,6 @@
 
 mod commands;
 
-ghost use Rattle.std.specs.Prelude.{◌≤◌, IfOk, length};
-
 use commands::Command;
 use std::env::{Env, FillError};
 use std::io;
@@ -14,30 +12,17 @@ use std::io::{Read, Write};
 // So much of an input is read, and no job is longer.
 const BUFFER: usize = 65536;
 
-// So much of an argument is read: no path is longer.
+// So much of an argument is read: no command is longer.
 const WORD: usize = 4096;
 
-// Reads until the buffer is full or the input ends, and answers how many bytes stand in it.
-fn read_full<R: Read + Drop>(input: R, buffer: &mut [u8]) -> io::Result<usize>
-    ensures { IfOk result (λ n. n ≤ length buffer.new) }
-{
-    let room = buffer.len();
-    let count = io::copy(&mut input.take(room as u64), &mut &mut *buffer)?;
-    Ok(room.min(count as usize))
-}
-
-// The job written again, or its refusal.
-fn print_rewritten<W: Write>(job: &[u8], out: &mut W) -> io::Result<()> {
-    let mut file = [0u8; BUFFER];
-    let count = sheet::rewrite(job, &mut file);
-    out.write_all(&file[..count])
-}
-
-// That of the job that is read.
+// The job that is read, written again, or its refusal.
 fn rewrite<R: Read + Drop, W: Write>(input: R, out: &mut W) -> io::Result<()> {
     let mut job = [0u8; BUFFER];
-    let length = read_full(input, &mut job)?;
-    print_rewritten(&job[..length], out)
+    let count = io::copy(&mut input.take(BUFFER as u64), &mut job.as_mut_slice())?;
+    let length = BUFFER.min(count as usize);
+    let mut file = [0u8; BUFFER];
+    let used = sheet::rewrite(&job[..length], &mut file);
+    out.write_all(&file[..used])
 }
 
 fn say_what_it_can_do<W: Write>(out: &mut W) -> io::Result<()> {
@@ -58,15 +43,13 @@ fn is_given<E: Env>(program: &E, number: usize) -> bool {
 }
 
 // What the arguments ask for; one command has none behind it. A word that is longer than any command is none.
-fn asked<E: Env>(program: &E) -> Command {
+fn asked<E: Env>(program: &E) -> Option<Command> {
     if is_given(program, 2) {
-        return Command::Unknown;
+        return None;
     }
     let mut word = [0u8; WORD];
-    match program.arg(1, &mut word) {
-        Ok(length) => commands::command_of(&word[..length]),
-        Err(_) => Command::Unknown,
-    }
+    let length = program.arg(1, &mut word).ok()?;
+    commands::command_of(&word[..length])
 }
 
 fn main(rt: HostRuntime) -> io::Result<()> {
@@ -74,7 +57,7 @@ fn main(rt: HostRuntime) -> io::Result<()> {
         return say_what_it_can_do(&mut rt.stdout());
     }
     match asked(&rt) {
-        Command::Rewrite => rewrite(rt.stdin(), &mut rt.stdout()),
-        Command::Unknown => say_no_command(&mut rt.stderr()),
+        Some(Command::Rewrite) => rewrite(rt.stdin(), &mut rt.stdout()),
+        None => say_no_command(&mut rt.stderr()),
     }
 }

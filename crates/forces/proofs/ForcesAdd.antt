@@ -5,13 +5,16 @@ use Prim.Native.Nat.{◌+◌, ◌-◌, ◌≤◌}
 use native.Mathlib.Omega.{arith}
 use lib.Dec.{T}
 use lib.ListN.{length, replicate}
+use Rattle.std.specs.Prelude.{Result, Ok}
 use Rattle.rules.specs.declared.Borne.{Borne}
 use Rattle.rules.specs.declared.Forces.{Forces}
+use Rattle.rules.specs.declared.Refusal.{Refusal}
 use Rattle.rules.specs.JobFile.{Wall, Load, most_loads_on_wall}
-use Rattle.rules.specs.Beyond.{fits, worked_forces, worked_bearing, bearing_of}
+use Rattle.rules.specs.Beyond.{examined, fits, worked_forces, worked_bearing, forces_of}
 use Rattle.rules.proofs.Additive.{Adds, forces_add}
-use Rattle.rules.proofs.Absent.{Absent, borne_with}
+use Rattle.rules.proofs.Absent.{Absent, fits_same, bearing_same}
 use Rattle.rules.proofs.Examined.{fit, joined}
+use Rattle.rules.proofs.Replies.{gives_worked}
 use Rattle.forces.proofs as forces
 
 -- a list of loads as the entry takes it
@@ -19,26 +22,34 @@ abbrev pub eight_rows : List Load → List Load
 eight_rows loads = loads ++ replicate (most_loads_on_wall - length loads) (0 ∷ 0 ∷ 0 ∷ 0 ∷ [])
 
 -- by its contract the entry answers so for a wall and a list of loads
-abbrev pub Answers : Wall → List Load → Forces → Type 0
-Answers wall loads f = forces.forces_on.Reads.Learnt tt (wall, (eight_rows loads, tt)) f (wall, (eight_rows loads, tt))
+abbrev pub Answers : Wall → List Load → Result Forces Refusal → Type 0
+Answers wall loads r = forces.forces_on.Reads.Learnt tt (wall, (eight_rows loads, tt)) r (wall, (eight_rows loads, tt))
 
 -- and of a wall that fits with them these are its forces under them
-worked : (wall : Wall) (loads : List Load) → T (fits wall loads) → (f : Forces) → Answers wall loads f → f ≡ worked_forces wall loads
-unfolding bearing_of worked_bearing
-worked wall loads t f answers =
-    let room : length loads + (most_loads_on_wall - length loads) ≤ most_loads_on_wall = omega (arith, (fit wall loads t).few) in
-    answers ∙ ap (λ (b : Borne). b.forces) (borne_with wall absent loads (most_loads_on_wall - length loads) room t)
+worked : (wall : Wall) (loads : List Load) → T (fits wall loads) → (r : Result Forces Refusal) → Answers wall loads r → r ≡ Ok (worked_forces wall loads)
+unfolding forces_of worked_bearing
+worked wall loads t r answers =
+    let more = most_loads_on_wall - length loads in
+    let room : length loads + more ≤ most_loads_on_wall = omega (arith, (fit wall loads t).few) in
+    answers
+    ∙ gives_worked (examined wall (loads ++ replicate more (0 ∷ 0 ∷ 0 ∷ 0 ∷ []))) _ (fits_same wall absent loads more room t)
+    ∙ ap (λ (b : Borne). Ok b.forces) (bearing_same wall absent loads more)
   where
     absent : Absent (0 ∷ 0 ∷ 0 ∷ 0 ∷ [])
     absent = record { down = refl; at_toe = refl; dead = refl; live = refl }
 
 -- each of the ten totals is the two added, less the bare wall's
-pub record AddUp (whole one other bare : Forces) : Type 0 where
+pub record Totalled (whole one other bare : Forces) : Type 0 where
   pub in_service : Adds whole.service one.service other.service bare.service
   pub by_factors : Adds whole.factored one.factored other.factored bare.factored
 
+-- none of the four answers is a refusal, and their totals are so
+abbrev pub AddUp : Result Forces Refusal → Result Forces Refusal → Result Forces Refusal → Result Forces Refusal → Type 0
+AddUp (Ok whole) (Ok one) (Ok other) (Ok bare) = Totalled whole one other bare
+AddUp _ _ _ _ = ⊥
+
 -- for one wall and two lists that are accepted when joined, in either order
-pub forces_join : (wall : Wall) (first second : List Load) → T (fits wall (first ++ second)) → {one other whole turned bare : Forces}
+pub forces_join : (wall : Wall) (first second : List Load) → T (fits wall (first ++ second)) → {one other whole turned bare : Result Forces Refusal}
     → Answers wall first one → Answers wall second other → Answers wall (first ++ second) whole → Answers wall (second ++ first) turned → Answers wall [] bare
     → AddUp whole one other bare × AddUp turned one other bare
 unfolding worked_forces

@@ -10,8 +10,8 @@ use Rattle.rules.specs.JobFile.{Wall, Load, greatest_load, base_length, crest_he
 use Rattle.rules.specs.Forces.{Component, load_row, dead_row, live_row, load_table}
 use Rattle.rules.proofs.Accepted.{WallWithin, wall_within, longest, base_length_lem, crest_height_lem, LoadWithin, load_within}
 use Rattle.rules.proofs.Examined.{Suits, Fit, absent_fits}
-use Rattle.forces.specs.Faces.{rows_of}
-use Rattle.forces.specs.Tables.{LoadsSmall, part_row, rows_in}
+use Rattle.forces.specs.Components.{in_code, all_in_code}
+use Rattle.forces.specs.Tables.{LoadsSmall, part_of, rows_in}
 
 -- ---- the loads
 
@@ -42,8 +42,8 @@ loads_small wall loads f i =
 
 -- ---- the rows
 
--- put in place are the rows of components: weights, pushes and the parts of the loads
+-- put in place are the components: weights, pushes and the parts of the loads
 pub in_place : (weights pushes : List Component) (loads : List Load)
-    → rows_in (rows_of weights) (rows_of pushes) loads ≡ rows_of (weights ++ pushes ++ load_table loads)
-unfolding load_table dead_row live_row load_row rows_in part_row
-in_place weights pushes loads = simp (map-append, map-map, of_either (λ (c : Component). c.row), append_assoc)
+    → rows_in (all_in_code weights) (all_in_code pushes) loads ≡ all_in_code (weights ++ pushes ++ load_table loads)
+unfolding load_table dead_row live_row load_row rows_in part_of
+in_place weights pushes loads = simp (map-append, map-map, of_either in_code, append_assoc)

@@ -1,4 +1,5 @@
 pub mod Cells
+pub mod Fitted
 pub mod ForcesAdd
 pub mod Holding
 pub mod InPlace

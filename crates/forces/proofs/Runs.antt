@@ -1,5 +1,5 @@
--- An array that is filled behind a front that is in place: with the elements of one list; or two at a time, with the next of one list, and behind that list's room the
--- next of another that is as long. Assumes nothing.
+-- An array that is filled behind a front that is in place, two at a time: with the next of one list, and behind that list's room the next of another that is as long.
+-- Assumes nothing.
 use mathlib.Core.Path.{◌≡◌, refl, sym, ◌∙◌}
 use mathlib.Core.List.{List, ◌++◌, map}
 use Prim.Native.Nat.{ℕ, suc, ◌+◌, ◌≤◌, ◌<◌}
@@ -11,54 +11,6 @@ use lib.Seq.{length-take-le, take_at, take_all, take-suc, take-suc-set, take-set
 use Rattle.whole.proofs.Indexed.{past, mapped}
 
 module _ {A : Type 0} where
-  -- in an array of s stand behind a front of m elements i of a list of n
-  pub record OneRun (front one : List A) (s m n i : ℕ) (xs : List A) : Type 0 where
-    pub of_front : length front ≡ m
-    pub of_one : length one ≡ n
-    pub within : i ≤ n
-    pub room : m + n ≤ s
-    pub size : length xs ≡ s
-    pub stored : take (m + i) xs ≡ take (m + i) (front ++ one)
-
-  pub front_stands : {one xs : List A} {s m n : ℕ} → length one ≡ n → m + n ≤ s → length xs ≡ s → OneRun (take m xs) one s m n 0 xs
-  front_stands {one} {xs} {m = m} h room size =
-      let front = length-take-le m xs (omega arith) in
-      record {
-        of_front = front;
-        of_one = h;
-        within = omega arith;
-        room = room;
-        size = size;
-        stored = rw (add-zero, take_at (take m xs) one m front);
-      }
-
-  module _ {front one xs : List A} {s m n i : ℕ} (run : OneRun front one s m n i xs) where
-    pub next_one : (d : A) (a : ℕ) (x : A) → i < n → a ≡ m + i → x ≡ get_or one i d → OneRun front one s m n (i + 1) (set xs a x)
-    next_one d a x h k e =
-        let next : m + (i + 1) ≡ suc a = omega arith in
-        record {
-          of_front = run.of_front;
-          of_one = run.of_one;
-          within = omega arith;
-          room = run.room;
-          size = length-set xs a x ∙ run.size;
-          stored =
-              rw (
-                next,
-                take-suc-set xs a x (omega arith),
-                take-suc (front ++ one) a d (rw length-append (omega arith)),
-                past front one d a i (omega arith),
-                k,
-                run.stored,
-                e,
-              );
-        }
-
-    pub one_stored : n ≤ i → take (m + n) xs ≡ front ++ one
-    one_stored h =
-        let all : i ≡ n = omega arith in
-        rw all at run.stored ∙ take_all (m + n) (front ++ one) (rw length-append (omega arith))
-
   -- in an array of s stand behind a front of m elements i of each of two lists of n
   pub record TwoRuns (front one two : List A) (s m n i : ℕ) (xs : List A) : Type 0 where
     pub of_front : length front ≡ m

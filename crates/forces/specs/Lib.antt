@@ -1,3 +1,3 @@
-pub mod Faces
+pub mod Components
 pub mod Sorts
 pub mod Tables

@@ -1,69 +1,65 @@
--- The table's sums as the code makes them: the sorts of the rows as numbers, and a list of weights with a place for each sort.
-use Rattle.std.specs.Prelude.{ℕ, ◌≤◌, ◌<◌, cond, List, [], ◌∷◌, ◌++◌, map, get_or, ℤ, pos, nat_abs, ◌*ℤ◌}
-use Rattle.whole.specs.Sum.{sum_to}
+-- The table's sums as the code makes them: each component counts by a list of weights with a place for each sort.
+use Rattle.std.specs.Prelude.{ℕ, ◌≤◌, List, [], ◌∷◌, get_or, ℤ, pos, nat_abs, ◌*ℤ◌}
+use Rattle.whole.specs.Sum.{sum_of}
 use Rattle.rules.specs.declared.Totals.{Totals}
-use Rattle.rules.specs.JobFile.{Load, is_down}
-use Rattle.forces.specs.Tables.{components}
-use Rattle.rules.specs.Forces.{Sort, deadWeight, liveWeight, deadPush, livePush, vertical, horizontal, moment, restores, overturns}
+use Rattle.rules.specs.Forces as forces
+use Rattle.rules.specs.Forces.{deadWeight, liveWeight, deadPush, livePush, restores, overturns}
 use Rattle.rules.proofs.Moments.{balances}
 use Rattle.rules.proofs.Sizes.{greatest_cell}
+use Rattle.forces.specs.declared.component.Sort.TheVariants.{DeadWeight}
+use Rattle.forces.specs.declared.component.Column.{Column}
+use Rattle.forces.specs.declared.component.Column.TheVariants.{Vertical, Horizontal, Moment}
+use Rattle.forces.specs.declared.component.Component.{Component}
+use Rattle.forces.specs.declared.sums.TotalWeights.{TotalWeights}
+use Rattle.forces.specs.Components.{place_of, cell}
 
--- a sort's place among the weights
-abbrev pub place_of : Sort → ℕ
-place_of deadWeight = 0
-place_of liveWeight = 1
-place_of deadPush = 2
-place_of livePush = 3
-
-abbrev pub weights_of : (Sort → ℤ) → List ℤ
+abbrev pub weights_of : (forces.Sort → ℤ) → List ℤ
 weights_of weight = weight deadWeight ∷ weight liveWeight ∷ weight deadPush ∷ weight livePush ∷ []
 
--- the sorts of the weights and pushes
-abbrev pub first_sorts : List ℕ
-first_sorts = 0 ∷ 0 ∷ 0 ∷ 0 ∷ 0 ∷ 1 ∷ 3 ∷ 2 ∷ 2 ∷ 2 ∷ 2 ∷ []
+-- a cell of the table, with the weight that its component's sort has
+abbrev pub weighted : List ℤ → Column → Component → ℤ
+weighted weights column c = get_or weights (place_of c.sort) (pos 0) *ℤ cell column c
 
--- the one for a load down, the other for a load across
-abbrev pub place_by_way : ℕ → ℕ → Load → ℕ
-place_by_way down across load = cond (is_down load) down across
+unfoldable pub weighted_sum : List Component → List ℤ → Column → ℤ
+weighted_sum table weights column = sum_of (weighted weights column) table
 
--- the sorts of all rows: behind the first those of the loads' dead parts, and then of their live parts
-unfoldable pub sorts_of : List Load → List ℕ
-sorts_of loads = first_sorts ++ map (place_by_way 0 2) loads ++ map (place_by_way 1 3) loads
+-- small enough for every sum to fit: a component, and a table of them
+pub record SmallComponent (c : Component) : Type 0 where
+  pub cells : (column : Column) → nat_abs (cell column c) ≤ greatest_cell
 
--- a cell of the table, with the weight that its row's sort has
-abbrev pub weighted : List (List ℤ) → List ℕ → List ℤ → ℕ → ℕ → ℤ
-weighted table sorts weights column i = get_or weights (get_or sorts i 0) (pos 0) *ℤ get_or (get_or table i []) column (pos 0)
+-- what is read behind the last component has nothing in it
+abbrev pub nothing_here : Component
+nothing_here = record { sort = DeadWeight; vertical = pos 0; horizontal = pos 0; moment = pos 0 }
 
-unfoldable pub weighted_sum : List (List ℤ) → List ℕ → List ℤ → ℕ → ℤ
-weighted_sum table sorts weights column = sum_to (weighted table sorts weights column) components
-
--- small enough for every sum to fit
-pub record Small (table : List (List ℤ)) (sorts : List ℕ) : Type 0 where
-  pub cells : (i j : ℕ) → nat_abs (get_or (get_or table i []) j (pos 0)) ≤ greatest_cell
-  pub sorted : (i : ℕ) → get_or sorts i 0 < 4
+pub record Small (table : List Component) : Type 0 where
+  pub each : (i : ℕ) → SmallComponent (get_or table i nothing_here)
 
 -- weights of at most 16, and lists of them
 pub record Light (weights : List ℤ) : Type 0 where
   pub at_most : (i : ℕ) → nat_abs (get_or weights i (pos 0)) ≤ 16
 
-pub record AllLight (weights : List (List ℤ)) : Type 0 where
-  pub each : (i : ℕ) → Light (get_or weights i [])
+pub record AllLight (weights : TotalWeights) : Type 0 where
+  pub counted : Light weights.counted
+  pub restored : Light weights.restored
+  pub overturned : Light weights.overturned
+  pub balanced : Light weights.balanced
 
 -- what counts, what restores, what overturns, and what M6 takes
-abbrev pub total_weights : (Sort → ℤ) → List (List ℤ)
+abbrev pub total_weights : (forces.Sort → ℤ) → TotalWeights
 total_weights counts =
-    weights_of counts
-    ∷ weights_of (λ s. counts s *ℤ restores s)
-    ∷ weights_of (λ s. counts s *ℤ overturns s)
-    ∷ weights_of (λ s. counts s *ℤ balances s)
-    ∷ []
-
-unfoldable pub totals_by : List (List ℤ) → List ℕ → List (List ℤ) → Totals
-totals_by table sorts weights =
     record {
-      R = weighted_sum table sorts (get_or weights 0 []) vertical;
-      H = weighted_sum table sorts (get_or weights 0 []) horizontal;
-      Mrest = weighted_sum table sorts (get_or weights 1 []) moment;
-      Mot = weighted_sum table sorts (get_or weights 2 []) moment;
-      M6 = weighted_sum table sorts (get_or weights 3 []) moment;
+      counted = weights_of counts;
+      restored = weights_of (λ s. counts s *ℤ restores s);
+      overturned = weights_of (λ s. counts s *ℤ overturns s);
+      balanced = weights_of (λ s. counts s *ℤ balances s);
+    }
+
+unfoldable pub totals_by : List Component → TotalWeights → Totals
+totals_by table weights =
+    record {
+      R = weighted_sum table weights.counted Vertical;
+      H = weighted_sum table weights.counted Horizontal;
+      Mrest = weighted_sum table weights.restored Moment;
+      Mot = weighted_sum table weights.overturned Moment;
+      M6 = weighted_sum table weights.balanced Moment;
     }

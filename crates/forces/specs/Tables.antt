@@ -1,8 +1,12 @@
--- The component tables as the code fills them, each with as many rows as any of them can have. What a table doesn't have is a row of zeros.
+-- The component tables as the code fills them, each with as many components as any of them can have. What a table doesn't have is a component with nothing in it.
 use Rattle.std.specs.Prelude.{ℕ, ◌+◌, ◌-◌, ◌*◌, ◌≤◌, ◌<◌, Bool, not, ◌||◌, cond, List, [], ◌∷◌, ◌++◌, map, ltb, get_or, ℤ, pos}
 use Rattle.rules.specs.JobFile.{greatest_load, Wall, Load, stem_height, base_thickness, rest_coefficient, direction, is_down, position, dead_load, live_load}
-use Rattle.rules.specs.Forces.{saturated_height, Sort, deadWeight, liveWeight, Component, push_rows, load_table}
+use Rattle.rules.specs.Forces as forces
+use Rattle.rules.specs.Forces.{saturated_height, deadWeight, push_rows, load_table}
 use Rattle.rules.proofs.Accepted.{longest}
+use Rattle.forces.specs.declared.component.Sort.{Sort}
+use Rattle.forces.specs.declared.component.Sort.TheVariants.{DeadWeight, LiveWeight, DeadPush, LivePush}
+use Rattle.forces.specs.declared.component.Component.{Component}
 
 -- how many components a wall has, with as many loads as it may have
 abbrev pub components : ℕ
@@ -25,16 +29,22 @@ pub record LoadSmall (load : Load) : Type 0 where
 abbrev pub LoadsSmall : List Load → Type 0
 LoadsSmall loads = (i : ℕ) → LoadSmall (get_or loads i [])
 
--- a part of a load, by its place in the load
-unfoldable pub part_row : ℕ → Load → List ℤ
-part_row part load =
-    let force = get_or load part 0 in
+-- a force of a load: a weight where the load acts down, and a push where it acts across
+unfoldable pub part_of : Sort → Sort → ℕ → Load → Component
+part_of weight push force load =
     let moment = pos (force * (6 * position load)) in
-    cond (is_down load) (pos force ∷ pos 0 ∷ moment ∷ []) (pos 0 ∷ pos force ∷ moment ∷ [])
+    cond (is_down load) (record { sort = weight; vertical = pos force; horizontal = pos 0; moment = moment })
+    (record { sort = push; vertical = pos 0; horizontal = pos force; moment = moment })
 
--- the rows one behind the other: the weights, the pushes, the dead part of every load and then the live part of every load
-unfoldable pub rows_in : List (List ℤ) → List (List ℤ) → List Load → List (List ℤ)
-rows_in weights pushes loads = weights ++ pushes ++ map (part_row 2) loads ++ map (part_row 3) loads
+abbrev pub dead_part : Load → Component
+dead_part load = part_of DeadWeight DeadPush (dead_load load) load
+
+abbrev pub live_part : Load → Component
+live_part load = part_of LiveWeight LivePush (live_load load) load
+
+-- the components one behind the other: the weights, the pushes, the dead part of every load and then the live part of every load
+unfoldable pub rows_in : List Component → List Component → List Load → List Component
+rows_in weights pushes loads = weights ++ pushes ++ map dead_part loads ++ map live_part loads
 
 -- ---- the stem's table
 
@@ -51,15 +61,15 @@ on_stem thickness load =
 abbrev pub no_row : List ℤ
 no_row = pos 0 ∷ pos 0 ∷ pos 0 ∷ []
 
-abbrev pub nothing : Sort → Component
+abbrev pub nothing : forces.Sort → forces.Component
 nothing sort = record { sort = sort; row = no_row }
 
 -- where a wall's table has the weights
-abbrev pub no_weights : List Component
-no_weights = nothing deadWeight ∷ nothing deadWeight ∷ nothing deadWeight ∷ nothing deadWeight ∷ nothing deadWeight ∷ nothing liveWeight ∷ []
+abbrev pub no_weights : List forces.Component
+no_weights = nothing deadWeight ∷ nothing deadWeight ∷ nothing deadWeight ∷ nothing deadWeight ∷ nothing deadWeight ∷ nothing deadWeight ∷ []
 
 -- the rules' table of the stem, in the places that a wall's table has
-unfoldable pub stem_in_place : Wall → List Load → List Component
+unfoldable pub stem_in_place : Wall → List Load → List forces.Component
 stem_in_place wall loads =
     no_weights
     ++ push_rows wall (rest_coefficient wall) (stem_height wall) (saturated_height wall) 0

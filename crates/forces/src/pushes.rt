@@ -1,14 +1,12 @@
-// Document 01, "Forces": the pushes at a coefficient K, each rounded up, on a face of height h with water up to hw above its foot. The stem
-// has a face of its own, so the heights are given.
-ghost use Rattle.std.specs.Prelude.{◌≡◌, ◌*◌, ◌≤◌, ◌<◌, ◌^◌, T};
+// Document 01, "Forces": the pushes on a face at its coefficient, each rounded up.
+ghost use Rattle.std.specs.Prelude.{◌≡◌, ◌*◌, ◌<◌, ◌^◌};
 ghost use Rattle.whole.specs.Rounding.{rounded_up};
-ghost use Rattle.rules.specs.JobFile.{wall_fits};
 ghost use Rattle.rules.specs.Forces.{surcharge_push, moist_push, moist_push_below, saturated_push, water_push};
-ghost use Rattle.rules.proofs.Accepted.{tallest};
-ghost use Rattle.forces.specs.Faces.{Face};
 
+use crate::face::Face;
+use crate::loaded::LoadedWall;
 use crate::units::{PER_AREA, PER_SQUARE_AT_K, THOUSANDTHS};
-use record::{MOIST_DENSITY, SATURATED_DENSITY, SURCHARGE, Wall};
+use record::{MOIST_DENSITY, SATURATED_DENSITY, SURCHARGE};
 use rules::PER_VOLUME;
 
 // What water weighs, in 10 N/m3.
@@ -37,49 +35,67 @@ fn push(k: u64, density: u64, a: u64, b: u64, per: u64) -> u64
     push_of(k * density * (a * b), per)
 }
 
-pub fn surcharge_push(wall: Wall, k: u64, h: u64) -> u64
-    requires { T (wall_fits wall) × Face k h 0 }
-    ensures { result ≡ surcharge_push wall k h }
-{
-    push_of(k * record::field(wall, SURCHARGE) * h, PER_AREA_AT_K)
+impl LoadedWall {
+    #[tactic(auto, unfolding(rules::specs::Forces::surcharge_push))]
+    pub fn surcharge_push(&self, face: Face) -> u64
+        ensures { result ≡ surcharge_push self.now.wall face.coefficient face.height }
+    {
+        push_of(
+            face.coefficient * self.field(SURCHARGE) * face.height,
+            PER_AREA_AT_K,
+        )
+    }
+
+    // Moist fill above the water.
+    #[tactic(auto, unfolding(rules::specs::Forces::moist_push))]
+    pub fn moist_push(&self, face: Face) -> u64
+        ensures { result ≡ moist_push self.now.wall face.coefficient face.height face.water }
+    {
+        let above = face.height - face.water;
+        push(
+            face.coefficient,
+            self.field(MOIST_DENSITY),
+            above,
+            above,
+            PER_SQUARE_AT_K,
+        )
+    }
+
+    // Moist fill above the water, as it bears on what stands below.
+    pub fn moist_push_below(&self, face: Face) -> u64
+        ensures { result ≡ moist_push_below self.now.wall face.coefficient face.height face.water }
+    {
+        let density = self.field(MOIST_DENSITY);
+        push(
+            face.coefficient,
+            density,
+            face.height - face.water,
+            face.water,
+            PER_VOLUME_AT_K,
+        )
+    }
+
+    // Saturated fill, as much as it weighs under water.
+    #[tactic(auto, unfolding(rules::specs::Forces::saturated_push))]
+    pub fn saturated_push(&self, face: Face) -> u64
+        ensures { result ≡ saturated_push self.now.wall face.coefficient face.water }
+    {
+        let buoyant = self.field(SATURATED_DENSITY) - WATER_DENSITY;
+        push(
+            face.coefficient,
+            buoyant,
+            face.water,
+            face.water,
+            PER_SQUARE_AT_K,
+        )
+    }
 }
 
-// Moist fill above the water.
-pub fn moist_push(wall: Wall, k: u64, h: u64, hw: u64) -> u64
-    requires { T (wall_fits wall) × Face k h hw }
-    ensures { result ≡ moist_push wall k h hw }
-{
-    let above = h - hw;
-    push(
-        k,
-        record::field(wall, MOIST_DENSITY),
-        above,
-        above,
-        PER_SQUARE_AT_K,
-    )
-}
-
-// Moist fill above the water, as it bears on what stands below.
-pub fn moist_push_below(wall: Wall, k: u64, h: u64, hw: u64) -> u64
-    requires { T (wall_fits wall) × Face k h hw }
-    ensures { result ≡ moist_push_below wall k h hw }
-{
-    let density = record::field(wall, MOIST_DENSITY);
-    push(k, density, h - hw, hw, PER_VOLUME_AT_K)
-}
-
-// Saturated fill, as much as it weighs under water.
-pub fn saturated_push(wall: Wall, k: u64, hw: u64) -> u64
-    requires { T (wall_fits wall) × Face k hw hw }
-    ensures { result ≡ saturated_push wall k hw }
-{
-    let buoyant = record::field(wall, SATURATED_DENSITY) - WATER_DENSITY;
-    push(k, buoyant, hw, hw, PER_SQUARE_AT_K)
-}
-
-pub fn water_push(hw: u64) -> u64
-    requires { hw ≤ tallest }
-    ensures { result ≡ water_push hw }
-{
-    push_of(WATER_DENSITY * (hw * hw), PER_SQUARE)
+impl Face {
+    #[tactic(auto, unfolding(rules::specs::Forces::water_push))]
+    pub fn water_push(self) -> u64
+        ensures { result ≡ water_push self.water }
+    {
+        push_of(WATER_DENSITY * (self.water * self.water), PER_SQUARE)
+    }
 }

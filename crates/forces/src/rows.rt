@@ -1,85 +1,74 @@
-// Document 01, "Forces": a component's row of the table, its vertical and its horizontal force in N and its moment in sixths of a N mm.
-ghost use Rattle.std.specs.Prelude.{◌≡◌, [], ◌∷◌, ◌≤◌, ◌*◌, T, pos, ◌*ℤ◌};
-ghost use Rattle.rules.specs.JobFile.{wall_fits};
-ghost use Rattle.rules.specs.Forces.{◌less◌, weight_rows, push_rows};
-ghost use Rattle.rules.proofs.Accepted.{most};
-ghost use Rattle.forces.specs.Faces.{Face, rows_of};
+// Document 01, "Forces": the components that every wall has, its weights and the pushes on a face.
+ghost use Rattle.std.specs.Prelude.{◌≡◌};
+ghost use Rattle.rules.specs.Forces.{over_heel, weight_rows, push_rows};
+ghost use Rattle.forces.specs.Components.{all_in_code};
 
-use crate::{pushes, weights};
-use record::{
-    DOWNSTAND_POSITION, DOWNSTAND_THICKNESS, HEEL_LENGTH, STEM_THICKNESS, TOE_LENGTH, Wall,
-};
-
-pub type Row = [i64; 3];
+use crate::component::{Component, Sort};
+use crate::face::Face;
+use crate::loaded::LoadedWall;
+use record::{DOWNSTAND_POSITION, DOWNSTAND_THICKNESS, HEEL_LENGTH, STEM_THICKNESS, TOE_LENGTH};
 
 pub const WEIGHTS: usize = 6;
 
-pub type WeightRows = [Row; WEIGHTS];
+pub type WeightRows = [Component; WEIGHTS];
 
 // The stem's table has pushes and loads alone.
-pub const NO_WEIGHTS: WeightRows = [[0; 3]; WEIGHTS];
+pub const NO_WEIGHTS: WeightRows = [Component::NOTHING; WEIGHTS];
 
 pub const PUSHES: usize = 5;
 
-pub type PushRows = [Row; PUSHES];
+pub type PushRows = [Component; PUSHES];
 
-// A number as an i64, well within its range.
-fn signed(n: u64) -> i64
-    requires { n ≤ 300000000000 }
-    ensures { result ≡ pos n }
-{
-    n as i64
-}
+impl LoadedWall {
+    // Six times the distance of the heel's middle from the toe.
+    #[tactic(auto, using(rules::proofs::Accepted::base_length_lem), unfolding(rules::specs::JobFile::base_length))]
+    fn over_heel(&self) -> u64
+        ensures { result ≡ over_heel self.now.wall }
+    {
+        6 * record::base_length(self.wall) - 3 * self.field(HEEL_LENGTH)
+    }
 
-// A force down, with six times its distance from the toe.
-pub fn down(force: u64, sixfold: u64) -> Row
-    requires { (force ≤ 3000000) × (sixfold ≤ 100000) }
-    ensures { result ≡ pos force ∷ pos 0 ∷ pos (force * sixfold) ∷ [] }
-{
-    [signed(force), 0, signed(force * sixfold)]
-}
+    // Stem, base, downstand, saturated fill, moist fill and surcharge; the last three stand over the heel.
+    #[tactic(auto, using(rules::proofs::Accepted::base_length_lem, rules::proofs::Sizes::weighed), unfolding(rules::specs::Forces::weight_rows))]
+    pub fn weight_rows(&self) -> WeightRows
+        ensures { result ≡ all_in_code (weight_rows self.now.wall) }
+    {
+        let heel = self.over_heel();
+        let stem = 6 * self.field(TOE_LENGTH) + 3 * self.field(STEM_THICKNESS);
+        let downstand = 6 * self.field(DOWNSTAND_POSITION) + 3 * self.field(DOWNSTAND_THICKNESS);
+        [
+            Component::down(Sort::DeadWeight, self.stem_weight(), stem),
+            Component::down(
+                Sort::DeadWeight,
+                self.base_weight(),
+                3 * record::base_length(self.wall),
+            ),
+            Component::down(Sort::DeadWeight, self.downstand_weight(), downstand),
+            Component::down(Sort::DeadWeight, self.saturated_weight(), heel),
+            Component::down(Sort::DeadWeight, self.moist_weight(), heel),
+            Component::down(Sort::LiveWeight, self.surcharge_weight(), heel),
+        ]
+    }
 
-// A horizontal force, with six times its height above a foot, and six times how deep the foot lies below the base's underside.
-pub fn across(force: u64, sixfold: u64, foot: u64) -> Row
-    requires { (force ≤ 3000000) × (sixfold ≤ 90000) × (foot ≤ 10000) }
-    ensures { result ≡ pos 0 ∷ pos force ∷ (pos force *ℤ (sixfold less foot)) ∷ [] }
-{
-    let push = signed(force);
-    let lever = signed(sixfold) - signed(foot);
-    [0, push, push * lever]
-}
-
-// Stem, base, downstand, saturated fill, moist fill and surcharge; the last three stand over the heel.
-pub fn weight_rows(wall: Wall) -> WeightRows
-    requires { T (wall_fits wall) }
-    ensures { result ≡ rows_of (weight_rows wall) }
-{
-    let length = record::base_length(wall);
-    let heel = 6 * length - 3 * record::field(wall, HEEL_LENGTH);
-    let stem = 6 * record::field(wall, TOE_LENGTH) + 3 * record::field(wall, STEM_THICKNESS);
-    let downstand = 6 * record::field(wall, DOWNSTAND_POSITION)
-        + 3 * record::field(wall, DOWNSTAND_THICKNESS);
-    [
-        down(weights::stem_weight(wall), stem),
-        down(weights::base_weight(wall), 3 * length),
-        down(weights::downstand_weight(wall), downstand),
-        down(weights::saturated_weight(wall), heel),
-        down(weights::moist_weight(wall), heel),
-        down(weights::surcharge_weight(wall), heel),
-    ]
-}
-
-// Surcharge, moist fill above water and below, saturated fill, and water, on a face whose foot lies dd below the base's underside.
-pub fn push_rows(wall: Wall, k: u64, h: u64, hw: u64, dd: u64) -> PushRows
-    requires { T (wall_fits wall) × Face k h hw × (dd ≤ most 36) }
-    ensures { result ≡ rows_of (push_rows wall k h hw dd) }
-{
-    let foot = 6 * dd;
-    [
-        across(pushes::surcharge_push(wall, k, h), 3 * h, foot),
-        across(pushes::moist_push(wall, k, h, hw), 2 * (h + 2 * hw), foot),
-        across(pushes::moist_push_below(wall, k, h, hw), 3 * hw, foot),
-        across(pushes::saturated_push(wall, k, hw), 2 * hw, foot),
-        across(pushes::water_push(hw), 2 * hw, foot),
-    ]
+    // Surcharge, moist fill above water and below, saturated fill, and water.
+    #[tactic(auto, using(rules::proofs::Sizes::pushed), unfolding(rules::specs::Forces::push_rows))]
+    pub fn push_rows(&self, face: Face) -> PushRows
+        ensures { result ≡ all_in_code (push_rows self.now.wall face.coefficient face.height face.water face.foot) }
+    {
+        let h = face.height;
+        let hw = face.water;
+        let foot = 6 * face.foot;
+        [
+            Component::across(Sort::LivePush, self.surcharge_push(face), 3 * h, foot),
+            Component::across(
+                Sort::DeadPush,
+                self.moist_push(face),
+                2 * (h + 2 * hw),
+                foot,
+            ),
+            Component::across(Sort::DeadPush, self.moist_push_below(face), 3 * hw, foot),
+            Component::across(Sort::DeadPush, self.saturated_push(face), 2 * hw, foot),
+            Component::across(Sort::DeadPush, face.water_push(), 2 * hw, foot),
+        ]
+    }
 }

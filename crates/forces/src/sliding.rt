@@ -1,68 +1,68 @@
 // Document 01, "Forces": what holds a wall that fits against sliding, in service figures. Passive force and friction are rounded down.
-ghost use Rattle.std.specs.Prelude.{◌≡◌, T, pos, ◌<ℤ◌};
-ghost use Rattle.rules.specs.JobFile.{wall_fits};
+ghost use Rattle.std.specs.Prelude.{◌≡◌, pos, ◌<ℤ◌};
 ghost use Rattle.rules.specs.Forces.{passive, friction_under, sliding_under};
 ghost use Rattle.rules.proofs.Sizes.{heaviest};
 
+use crate::loaded::LoadedWall;
 use crate::units::{PER_SQUARE_AT_K, THOUSANDTHS};
 use record::{
     BASE_THICKNESS, COVER_IN_FRONT, DOWNSTAND_DEPTH, EXCAVATION, FRICTION_TANGENT, KIND,
-    PASSIVE_COEFFICIENT, SOIL_DENSITY, Wall,
+    PASSIVE_COEFFICIENT, SOIL_DENSITY,
 };
 use rules::Sliding;
 
 const PROPPED: u64 = 1;
 
-// The passive force on the depth that is left in front of the wall.
-fn passive_force(wall: Wall) -> u64
-    requires { T (wall_fits wall) }
-    ensures { result ≡ passive wall }
-{
-    let covered = record::field(wall, COVER_IN_FRONT)
-        + record::field(wall, BASE_THICKNESS)
-        + record::field(wall, DOWNSTAND_DEPTH);
-    let depth = whole::excess(covered, record::field(wall, EXCAVATION));
-    whole::rounded_down(
-        record::field(wall, PASSIVE_COEFFICIENT)
-            * record::field(wall, SOIL_DENSITY)
-            * (depth * depth),
-        PER_SQUARE_AT_K,
-    )
-}
+impl LoadedWall {
+    // The passive force on the depth that is left in front of the wall.
+    #[tactic(auto, using(whole::proofs::Factors::two_fit, whole::proofs::Factors::pairs_fit), unfolding(rules::specs::Forces::passive, rules::specs::Forces::passive_depth))]
+    fn passive_force(&self) -> u64
+        ensures { result ≡ passive self.now.wall }
+    {
+        let covered = self.field(COVER_IN_FRONT)
+            + self.field(BASE_THICKNESS)
+            + self.field(DOWNSTAND_DEPTH);
+        let depth = whole::excess(covered, self.field(EXCAVATION));
+        whole::rounded_down(
+            self.field(PASSIVE_COEFFICIENT) * self.field(SOIL_DENSITY) * (depth * depth),
+            PER_SQUARE_AT_K,
+        )
+    }
 
-// The friction under what lasts of R.
-fn friction_under(wall: Wall, lasting: i64) -> u64
-    requires { T (wall_fits wall) × (lasting <ℤ pos heaviest) }
-    ensures { result ≡ friction_under wall lasting }
-{
-    whole::rounded_down(
-        record::field(wall, FRICTION_TANGENT) * whole::above_zero(lasting),
-        THOUSANDTHS,
-    )
-}
+    // The friction under what lasts of R.
+    fn friction_under(&self, lasting: i64) -> u64
+        requires { lasting <ℤ pos heaviest }
+        ensures { result ≡ friction_under self.now.wall lasting }
+    {
+        whole::rounded_down(
+            self.field(FRICTION_TANGENT) * whole::above_zero(lasting),
+            THOUSANDTHS,
+        )
+    }
 
-// An unpropped wall slides where less holds it than pushes it; a propped one leaves the rest to its prop.
-pub fn held(wall: Wall, lasting: i64, pushing: i64) -> Sliding
-    requires { T (wall_fits wall) × (lasting <ℤ pos heaviest) }
-    ensures { result ≡ sliding_under wall lasting pushing }
-{
-    let passive = passive_force(wall);
-    let friction = friction_under(wall, lasting);
-    let holding = passive + friction;
-    let push = whole::above_zero(pushing);
-    if record::field(wall, KIND) == PROPPED {
-        Sliding {
-            passive: passive,
-            friction: friction,
-            slides: false,
-            propping: whole::excess(push, holding),
-        }
-    } else {
-        Sliding {
-            passive: passive,
-            friction: friction,
-            slides: holding < push,
-            propping: 0,
+    // An unpropped wall slides where less holds it than pushes it; a propped one leaves the rest to its prop.
+    pub fn held(&self, lasting: i64, pushing: i64) -> Sliding
+        requires { lasting <ℤ pos heaviest }
+        ensures { result ≡ sliding_under self.now.wall lasting pushing }
+    {
+        let passive = self.passive_force();
+        let friction = self.friction_under(lasting);
+        let holding = passive + friction;
+        let push = whole::above_zero(pushing);
+        if self.field(KIND) == PROPPED {
+            Sliding {
+                passive,
+                friction,
+                slides: false,
+                propping: push.saturating_sub(holding),
+            }
+        } else {
+            Sliding {
+                passive,
+                friction,
+                slides: holding < push,
+                propping: 0,
+            }
         }
     }
 }

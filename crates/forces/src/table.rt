@@ -1,94 +1,85 @@
-// Document 01, "Forces": the component table, a row for each component: the weights, the pushes, the dead part of every load and then the live
-// part of every load.
-ghost use Rattle.std.specs.Prelude.{◌≡◌, ◌++◌, ◌≤◌, ◌<◌, ◌^◌, T, take};
+// Document 01, "Forces": the component table: the weights, the pushes, the dead part of every load and then the live part of every load.
+ghost use Rattle.std.specs.Prelude.{◌≡◌, ◌≤◌};
+ghost use Rattle.rules.specs.JobFile.{greatest_load, dead_load, live_load};
 ghost use Rattle.rules.specs.Forces.{table};
-ghost use Rattle.rules.specs.Beyond.{fits};
 ghost use Rattle.rules.proofs.Accepted.{most};
-ghost use Rattle.forces.specs.Faces.{rows_of};
-ghost use Rattle.forces.specs.Tables.{weights_count, own_rows, LoadSmall, LoadsSmall, part_row, rows_in};
+ghost use Rattle.forces.specs.Components.{all_in_code};
+ghost use Rattle.forces.specs.Tables.{LoadSmall, LoadsSmall, part_of, dead_part, live_part, rows_in};
 
-use crate::rows;
-use crate::rows::{PUSHES, PushRows, Row, WEIGHTS, WeightRows};
+use crate::component::{Component, Sort};
+use crate::face::Face;
+use crate::loaded::LoadedWall;
+use crate::rows::{PUSHES, PushRows, WEIGHTS, WeightRows};
 use record::{
-    DEAD, DIRECTION, DOWNSTAND_DEPTH, LIVE, Load, Loads, MOST_LOADS_ON_WALL, POSITION,
-    WATER_HEIGHT, Wall,
+    DEAD, DIRECTION, DOWNSTAND_DEPTH, LIVE, Load, Loads, MOST_LOADS_ON_WALL, POSITION, WATER_HEIGHT,
 };
 
-pub const FIRST_DEAD: usize = WEIGHTS + PUSHES;
+const FIRST_DEAD: usize = WEIGHTS + PUSHES;
 
-pub const FIRST_LIVE: usize = FIRST_DEAD + MOST_LOADS_ON_WALL;
+const FIRST_LIVE: usize = FIRST_DEAD + MOST_LOADS_ON_WALL;
 
 pub const COMPONENTS: usize = FIRST_LIVE + MOST_LOADS_ON_WALL;
 
-pub type Table = [Row; COMPONENTS];
+pub type Table = [Component; COMPONENTS];
 
-fn wide(n: u32) -> u64
-    ensures { (result ≡ n) × (result < 2 ^ 32) }
+// A part of a load: a weight where the load acts down, and a push where it acts across.
+#[tactic(auto, unfolding(crate::specs::Tables::part_of, rules::specs::JobFile::is_down))]
+fn part_of(load: Load, force: u32, weight: Sort, push: Sort) -> Component
+    requires { (force ≤ greatest_load) × LoadSmall load }
+    ensures { result ≡ part_of weight push force load }
 {
-    n as u64
-}
-
-// The dead or the live part of a load, down or across.
-fn load_row(load: Load, part: usize) -> Row
-    requires { (part < 4) × LoadSmall load }
-    ensures { result ≡ part_row part load }
-{
-    let force = wide(load[part]);
-    let sixfold = 6 * wide(load[POSITION]);
+    let force = u64::from(force);
+    let sixfold = 6 * u64::from(load[POSITION]);
     if load[DIRECTION] == 0 {
-        rows::down(force, sixfold)
+        Component::down(weight, force, sixfold)
     } else {
-        rows::across(force, sixfold, 0)
+        Component::across(push, force, sixfold, 0)
     }
 }
 
-// The weights; where the other rows come there is nothing yet.
-fn weights_first(weights: WeightRows) -> Table
-    ensures { take weights_count result ≡ weights }
+// A load's dead part.
+fn dead_part(load: Load) -> Component
+    requires { LoadSmall load }
+    ensures { result ≡ dead_part load }
 {
-    let mut table = [[0i64; 3]; COMPONENTS];
-    for i in 0..WEIGHTS {
-        table[i] = weights[i];
-    }
-    table
+    part_of(load, load[DEAD], Sort::DeadWeight, Sort::DeadPush)
 }
 
-// And behind them the pushes.
-fn own_rows(weights: WeightRows, pushes: PushRows) -> Table
-    ensures { take own_rows result ≡ weights ++ pushes }
+// And its live part.
+fn live_part(load: Load) -> Component
+    requires { LoadSmall load }
+    ensures { result ≡ live_part load }
 {
-    let mut table = weights_first(weights);
-    for i in 0..PUSHES {
-        table[WEIGHTS + i] = pushes[i];
-    }
-    table
+    part_of(load, load[LIVE], Sort::LiveWeight, Sort::LivePush)
 }
 
-// The rows one behind the other.
-pub fn filled(weights: WeightRows, pushes: PushRows, loads: Loads) -> Table
-    requires { LoadsSmall loads }
-    ensures { result ≡ rows_in weights pushes loads }
+// The components one behind the other.
+pub fn filled(weights: &WeightRows, pushes: &PushRows, loads: &Loads) -> Table
+    requires { LoadsSmall loads.now }
+    ensures { result ≡ rows_in weights.now pushes.now loads.now }
 {
-    let mut table = own_rows(weights, pushes);
-    for i in 0..MOST_LOADS_ON_WALL {
-        let load = loads[i];
-        table[FIRST_DEAD + i] = load_row(load, DEAD);
-        table[FIRST_LIVE + i] = load_row(load, LIVE);
+    let mut table = [Component::NOTHING; COMPONENTS];
+    table[..WEIGHTS].copy_from_slice(weights);
+    table[WEIGHTS..FIRST_DEAD].copy_from_slice(pushes);
+    for (i, load) in loads.iter().enumerate() {
+        table[FIRST_DEAD + i] = dead_part(*load);
+        table[FIRST_LIVE + i] = live_part(*load);
     }
     table
 }
 
-// A wall's table at a coefficient.
-pub fn of_wall(wall: Wall, loads: Loads, k: u64) -> Table
-    requires { T (fits wall loads) × (k ≤ most 16) }
-    ensures { result ≡ rows_of (table k wall loads) }
-{
-    let pushes = rows::push_rows(
-        wall,
-        k,
-        record::wall_height(wall),
-        record::field(wall, WATER_HEIGHT),
-        record::field(wall, DOWNSTAND_DEPTH),
-    );
-    filled(rows::weight_rows(wall), pushes, loads)
+impl LoadedWall {
+    // The wall's table at a coefficient.
+    pub fn table_at(&self, coefficient: u64) -> Table
+        requires { coefficient ≤ most 16 }
+        ensures { result ≡ all_in_code (table coefficient self.now.wall self.now.loads) }
+    {
+        let face = Face {
+            coefficient,
+            height: record::wall_height(self.wall),
+            water: self.field(WATER_HEIGHT),
+            foot: self.field(DOWNSTAND_DEPTH),
+        };
+        filled(&self.weight_rows(), &self.push_rows(face), &self.loads)
+    }
 }

@@ -1,6 +1,6 @@
 -- A count for each wall goes along with the loads that are passed, and by it the next one is answered.
 use mathlib.Core.Path.{◌≡◌, refl, ◌∙◌}
-use mathlib.Core.Bool.{Bool, true, false, not}
+use mathlib.Core.Bool.{Bool, true, false}
 use mathlib.Core.List.{List, [], ◌∷◌, ◌++◌, append-nil}
 use Prim.Native.Nat.{ℕ, suc, ◌+◌, ◌≤◌, ◌<◌}
 use native.Mathlib.Omega.{arith}
@@ -8,10 +8,10 @@ use native.Mathlib.Numerals.{add-one}
 use borrow.Author.Tests.{leb-false, eq-eqb, ne_eqb}
 use lib.Dec.{T, leb, leb→le}
 use lib.ListN.{length, get_or, set, replicate, length-append}
-use Rattle.rules.specs.declared.Answer.{Answer}
-use Rattle.rules.specs.declared.Answer.TheVariants.{NinthLoad}
+use Rattle.std.specs.Prelude.{is_ok, Ok, ⊤}
+use Rattle.rules.specs.declared.Refusal.TheVariants.{NinthLoad}
 use Rattle.rules.specs.JobFile.{Wall, Entry, most_loads_on_wall, most_walls, records_from, wall_of, load_of, loads_on, load_fits}
-use Rattle.rules.specs.Answered.{is_worked, refused_if, is_there, numbered, entry_fits}
+use Rattle.rules.specs.Answered.{Answer, refused_if, is_there, numbered, entry_fits}
 use Rattle.rules.proofs.Accepted.{both}
 use Rattle.rules.proofs.AcceptedFile.{loads_join}
 use Rattle.rules.specs.Beyond.{load_answer}
@@ -53,10 +53,10 @@ by_count true m n number same = rw (same tt)
 by_count false m n number same = refl
 
 -- a load that is passed fits, and has room on its wall
-room_for : (fits : Bool) (passed number : ℕ) → T (is_worked (load_answer fits passed number)) → T fits × (passed < most_loads_on_wall)
+room_for : (fits : Bool) (passed number : ℕ) → T (is_ok (load_answer fits passed number)) → T fits × (passed < most_loads_on_wall)
 room_for true passed number t = (tt, go (leb most_loads_on_wall passed) refl t)
   where
-    go : (more : Bool) → leb most_loads_on_wall passed ≡ more → T (is_worked (refused_if more (NinthLoad number))) → passed < most_loads_on_wall
+    go : (more : Bool) → leb most_loads_on_wall passed ≡ more → T (is_ok (refused_if more (NinthLoad number))) → passed < most_loads_on_wall
     go true e t = absurd t
     go false e t = leb-false most_loads_on_wall passed e
 room_for false passed number t = absurd t
@@ -80,9 +80,9 @@ module _ {there : List Wall} {entry_at : ℕ → Entry} {i : ℕ} {counts : List
   pub its_answer : answer ≡ load_answer_at there entry_at i
   its_answer = met.answered ∙ rw (← met.its) (by_count (entry_fits there entry) _ _ (i + 1) right)
 
-  module _ {worked : Bool} (told : worked ≡ is_worked answer) (e : not worked ≡ false) where
+  module _ {well : ⊤} (e : answer ≡ Ok well) where
     fits : T (entry_fits there entry) × (passed < most_loads_on_wall)
-    fits = room_for (entry_fits there entry) passed (i + 1) (no_refusal met.answered told e)
+    fits = room_for (entry_fits there entry) passed (i + 1) (no_refusal met.answered e)
 
     -- where it is passed, its wall has a count, and room for it
     pub has_room : (wall_of entry ≤ most_walls) × (passed < most_loads_on_wall)

@@ -1,5 +1,9 @@
 -- Document 01, "How strictly it is promised": no second answer fits, of each public entry.
-use Rattle.whole.proofs.OnlyOne.{Once, agree, by_equation, lent, past, also}
+use Rattle.whole.proofs.OnlyOne.{Once, OnlyOne, agree, by_equation, lent, past, also}
+use denote.RattleType.{RattleType}
+use denote.Param.Laws.{Laws}
+use mir.Syntax.{Dict}
+use Rattle.job.specs.declared.ranges.Records.{Ghosts}
 use Rattle.job.specs.contracts as contracts
 use Rattle.job.proofs as job
 
@@ -21,14 +25,16 @@ loads_at_lem = (λ _ _. tt, λ _ _ _ _ _ _. by_equation)
 pub take_apart : Once contracts.take_apart.ended job.take_apart.Reads.Asked job.take_apart.Reads.Learnt
 take_apart = (
   λ _ _. tt,
-  λ _ _ _ _ _ _ is its.
-      let walled = is.walls_put in
-      let loaded = is.loads_put in (
-        λ i. record {
-          answer = agree is.answered its.answered i;
-          walls = agree walled.counted its.walls_put.counted i;
-          loads = agree loaded.counted its.loads_put.counted i;
-        },
-        past (also (agree walled.holds its.walls_put.holds) (lent (agree loaded.holds its.loads_put.holds))),
-      ),
+  λ _ _ _ _ _ _ is its. (agree is.answered its.answered, past (also (agree is.walls_held its.walls_held) (lent (agree is.loads_held its.loads_held)))),
 )
+
+-- ---- of records of any kind: no second answer fits, whatever type has them. What is asked there is Rust's own, that what the type borrows is still lent
+module _ (Self : RattleType) (laws : Laws Self) (records : Ghosts Self.Denot) (dict : Dict) where
+  pub check_walls : OnlyOne (contracts.ranges.Records.check_walls.ended Self records dict) (job.ranges.Records.check_walls.Reads.Learnt Self laws records dict)
+  check_walls = λ _ _ _ _ _ _. by_equation
+
+  pub entry_fits : OnlyOne (contracts.ranges.Records.entry_fits.ended Self records dict) (job.ranges.Records.entry_fits.Reads.Learnt Self laws records dict)
+  entry_fits = λ _ _ _ _ _ _. by_equation
+
+  pub check_loads : OnlyOne (contracts.ranges.Records.check_loads.ended Self records dict) (job.ranges.Records.check_loads.Reads.Learnt Self laws records dict)
+  check_loads = λ _ _ _ _ _ _. by_equation

@@ -1,9 +1,8 @@
 -- The tests of document 01's "What is answered" that are made of the header.
 use Rattle.std.specs.Prelude.{not, ltb, eqb, length}
-use Rattle.rules.specs.declared.Answer.{Answer}
-use Rattle.rules.specs.declared.Answer.TheVariants.{TooShort, WrongEdition, CountOutOfRange, WrongOffset, WrongLength}
+use Rattle.rules.specs.declared.Refusal.TheVariants.{TooShort, WrongEdition, CountOutOfRange, WrongOffset, WrongLength}
 use Rattle.rules.specs.JobFile.{File, header_bytes, this_edition, edition}
-use Rattle.rules.specs.Answered.{refused_if, ◌or_else◌, counts_fit, offsets_fit, length_fits}
+use Rattle.rules.specs.Answered.{Answer, refused_if, ◌or_else◌, counts_fit, offsets_fit, length_fits}
 
 -- 1 to 4, and 10 behind them
 abbrev pub header_answer : File → Answer

@@ -46,18 +46,18 @@ pub fn walls_end(walls: u32) -> usize
 pub fn entries_at(file: &[u8]) -> usize
     ensures { (result ≡ header_bytes + wall_bytes * wall_count file.now) × (result < 2 ^ 40) }
 {
-    walls_end(crate::wall_count(file) as u32)
+    walls_end(u32::from(crate::wall_count(file)))
 }
 
 // How many numbers the records of the walls have, and those of the loads.
 pub fn wall_numbers(file: &[u8]) -> usize
     ensures { (result ≡ wall_fields * wall_count file.now) × (result < 2 ^ 40) }
 {
-    FIELDS * (crate::wall_count(file) as usize)
+    FIELDS * usize::from(crate::wall_count(file))
 }
 
 pub fn load_numbers(file: &[u8]) -> usize
     ensures { (result ≡ entry_fields * load_count file.now) × (result < 2 ^ 40) }
 {
-    ENTRY_FIELDS * (load_count(file) as usize)
+    ENTRY_FIELDS * usize::from(load_count(file))
 }

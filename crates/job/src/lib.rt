@@ -1,14 +1,17 @@
 // A job file taken apart, and its first refusal: any bytes have walls, loads of each wall, and one answer.
 #![tactic(auto)]
 
+pub use ranges::Records;
 pub use record::MOST_WALLS;
 use record::{
     ENTRY_FIELDS, FIELDS, LOAD_FIELDS, Loads, MOST_LOADS, MOST_LOADS_ON_WALL, WALL_NUMBER, Wall,
 };
-use rules::{Answer, Taken};
+use records::JobFile;
+use rules::{Answer, Refusal, Taken};
 
 mod bytes;
 mod header;
+mod ranges;
 mod records;
 mod refusals;
 mod rows;
@@ -39,15 +42,10 @@ pub type PlaceTable = [PlaceRow; MOST_WALLS];
 pub fn first_refusal(file: &[u8]) -> Answer
     ensures { result ≡ first_refusal file.now }
 {
-    let bad_header = refusals::header_answer(file);
-    if !reply::is_worked(bad_header) {
-        return bad_header;
-    }
-    let bad_wall = refusals::first_bad_wall(file);
-    if !reply::is_worked(bad_wall) {
-        return bad_wall;
-    }
-    refusals::first_bad_load(file)
+    refusals::check_header(file)?;
+    let records = JobFile { bytes: file };
+    records.check_walls()?;
+    records.check_loads()
 }
 
 // How many walls the header says there are.
@@ -72,13 +70,13 @@ pub fn places(file: &[u8]) -> PlaceTable
     ensures { result ≡ place_table (entries file.now) }
 {
     let mut table = [[0u32; MOST_LOADS_ON_WALL]; MOST_WALLS];
-    let loads = header::load_count(file) as u32;
+    let loads = u32::from(header::load_count(file));
     for i in 0..loads {
         let entry = records::entry_at(file, i);
         let wall = entry[WALL_NUMBER];
         if 1 <= wall && wall <= MOST_WALLS as u32 {
             let index = (wall - 1) as usize;
-            table[index] = rows::with_place(table[index], i + 1);
+            rows::add_place(&mut table[index], i + 1);
         }
     }
     table
@@ -89,32 +87,24 @@ pub fn loads_at(file: &[u8], row: PlaceRow) -> Loads
     ensures { result ≡ loads_at file.now row }
 {
     let mut loads = [[0u32; LOAD_FIELDS]; MOST_LOADS_ON_WALL];
-    for i in 0..MOST_LOADS_ON_WALL {
-        loads[i] = records::load_numbered(file, row[i]);
+    for (i, number) in row.iter().enumerate() {
+        loads[i] = records::load_numbered(file, *number);
     }
     loads
 }
 
 // Document 02, #101: a file taken apart. The records of its walls are put at the start of the one buffer, those of its loads at the start of the other,
 // and whatever stands behind them is as it was; or it is refused, and both are as they were.
-pub fn take_apart(file: &[u8], walls: &mut [u32], loads: &mut [u32]) -> Taken
+pub fn take_apart(file: &[u8], walls: &mut [u32], loads: &mut [u32]) -> Result<Taken, Refusal>
     ensures { TakesApart file.now walls.old loads.old result walls.new loads.new }
 {
-    let answer = refusals::taking_answer(file, walls.len(), loads.len());
-    if !reply::is_worked(answer) {
-        return Taken {
-            answer,
-            walls: 0,
-            loads: 0,
-        };
-    }
+    refusals::taking_answer(file, walls.len(), loads.len())?;
     let wall_numbers = header::wall_numbers(file);
     let load_numbers = header::load_numbers(file);
     bytes::read_u32s(file, HEADER_BYTES, &mut walls[..wall_numbers]);
     bytes::read_u32s(file, header::entries_at(file), &mut loads[..load_numbers]);
-    Taken {
-        answer,
+    Ok(Taken {
         walls: wall_numbers,
         loads: load_numbers,
-    }
+    })
 }

@@ -1,22 +1,51 @@
-// The records of a file: the lengths of a wall, and entries, each a wall's number and a load.
-ghost use Rattle.std.specs.Prelude.{◌≡◌};
-ghost use Rattle.rules.specs.JobFile.{wall_at, entry_at};
-ghost use Rattle.job.specs.Lengths.{lengths_of};
+// The records of a file, as its walls and loads are judged by; and its entries, each a wall's number and a load.
+ghost use Rattle.std.specs.Prelude.{◌≡◌, ◌≤◌, length};
+ghost use Rattle.rules.specs.JobFile.{most_walls, entry_at, walls, entries};
 ghost use Rattle.job.specs.Places.{load_numbered};
 
+use crate::ranges::Records;
 use crate::{bytes, header};
 use record::{
     COVER_IN_FRONT, ENTRY_BYTES, ENTRY_FIELDS, Entry, FIELDS, LOAD_FIELDS, Load, STEM_HEIGHT, Wall,
 };
 
-// The lengths of the wall at an index, by which its loads are judged, and 0 for every other field. They stand one behind the other.
-pub fn lengths_at(file: &[u8], i: u32) -> Wall
-    ensures { result ≡ lengths_of (wall_at file.now i) }
-{
-    let at = header::walls_end(i) + 4 * STEM_HEIGHT;
-    let mut lengths = [0u32; FIELDS];
-    bytes::read_u32s(file, at, &mut lengths[STEM_HEIGHT..COVER_IN_FRONT]);
-    lengths
+// A file that has no more walls than it may.
+#[derive(Clone, Copy)]
+pub struct JobFile<'a> {
+    pub bytes: &'a [u8],
+    ghost few_walls: { length (walls bytes.now) ≤ most_walls },
+}
+
+impl Records for JobFile<'_> {
+    ghost walls = { λ file. walls file.bytes.now };
+
+    ghost entries = { λ file. entries file.bytes.now };
+
+    ghost few_walls = { λ file. file.few_walls };
+
+    fn wall_count(&self) -> u16 {
+        crate::wall_count(self.bytes)
+    }
+
+    fn wall_at(&self, i: u32) -> Wall {
+        crate::wall_at(self.bytes, i)
+    }
+
+    // They stand one behind the other.
+    fn lengths_at(&self, i: u32) -> Wall {
+        let at = header::walls_end(i) + 4 * STEM_HEIGHT;
+        let mut lengths = [0u32; FIELDS];
+        bytes::read_u32s(self.bytes, at, &mut lengths[STEM_HEIGHT..COVER_IN_FRONT]);
+        lengths
+    }
+
+    fn entry_count(&self) -> u16 {
+        header::load_count(self.bytes)
+    }
+
+    fn entry_at(&self, i: u32) -> Entry {
+        entry_at(self.bytes, i)
+    }
 }
 
 // The entry at an index from 0.

@@ -1,25 +1,18 @@
 -- A word read byte by byte: those passed are digits, and it is known what they make, as far as that is told apart.
 use Prim.Native.Nat.{ℕ, suc, ◌+◌, ◌-◌, ◌*◌, ◌≤◌, ◌<◌, min}
 use Prim.Native.Char.{code}
-use mathlib.Core.Path.{◌≡◌, refl, sym, ◌∙◌, ap, subst}
+use mathlib.Core.Path.{◌≡◌, refl, sym, ◌∙◌, ap}
 use mathlib.Core.Bool.{Bool, true, false, cond, and-false}
 use mathlib.Core.List.{List, [], ◌∷◌}
 use native.Mathlib.Numerals.{add-one}
 use native.Mathlib.Omega.{arith}
-use borrow.Author.Tests.{le-leb, lt-ltb, le-ltb}
-use lib.Dec.{T, leb, eqb, leb→le}
-use lib.ListN.{length, get_or, drop, drop_of_length-le}
-use lib.Seq.{drop-cons}
-use Rattle.rules.proofs.Accepted.{both}
-use Rattle.keyed.specs.declared.Angle.TheVariants.{Tenths, NoAngle}
-use Rattle.keyed.specs.declared.Asked.TheVariants.{Number, NoNumber}
-use Rattle.keyed.specs.declared.Digits.{Digits}
-use Rattle.keyed.specs.declared.Digits.TheVariants.{Value, NoDigits}
-use Rattle.keyed.specs.Keyed.{is_digit, are_digits, is_digits, with_digits, beyond, most_digits, is_number, asked_for, has_point, greatest_angle, angle_by, digits_behind, angle_in}
-
--- a digit is from 0 to 9
-pub digit_from : (byte : ℕ) → is_digit byte ≡ true → (code "0" ≤ byte) × (byte ≤ code "9")
-digit_from byte e = let h = both (leb (code "0") byte) (leb byte (code "9")) (rw e tt) in (leb→le _ _ h.0, leb→le _ _ h.1)
+use borrow.Author.Tests.{le-leb, lt-leb, lt-ltb, le-ltb, ne_eqb}
+use lib.ListN.{length, get_or, take, drop, drop_of_length-le}
+use lib.Seq.{drop-cons, length-take-le}
+use Rattle.std.specs.Prelude.{Some, None, Result, Ok, Err, OkIff}
+use Rattle.std.specs.Result.{result_ok, result_unwrap_or}
+use Rattle.rules.specs.SheetLine.{ascii}
+use Rattle.keyed.specs.Keyed.{is_digit, are_digits, is_digits, with_digits, beyond, most_digits, is_number, asked_for, has_point, greatest_angle, angle_by, angle_of, digits_behind}
 
 -- ---- a number that is too great may be cut down before digits come behind it as well as after
 
@@ -52,10 +45,6 @@ pub record Passed (number : ℕ) (word : List ℕ) (value i : ℕ) : Type 0 wher
   pub makes : told (with_digits number word) ≡ told (with_digits value (drop i word))
   pub small : value ≤ beyond
 
--- at first none is passed
-pub none_passed : (number : ℕ) (word : List ℕ) → number ≤ beyond → Passed number word number 0
-none_passed number word h = record { within = omega arith; digits = refl; makes = refl; small = h }
-
 module _ {number : ℕ} {word : List ℕ} {value i : ℕ} (passed : Passed number word value i) where
   -- the next byte
   module _ (h : i < length word) where
@@ -85,67 +74,90 @@ module _ {number : ℕ} {word : List ℕ} {value i : ℕ} (passed : Passed numbe
 
 -- ---- what was read, and what a word then is
 
-abbrev is_none : Digits → Bool
-is_none (Value n) = false
-is_none NoDigits = true
-
 module _ (number : ℕ) (word : List ℕ) where
   -- a value is read of digits alone, and it is what they make
-  pub value_read : {v : ℕ} → digits_behind number word ≡ Value v → (is_digits word ≡ true) × (told (with_digits number word) ≡ v)
+  pub value_read : {v : ℕ} → digits_behind number word ≡ Some v → (is_digits word ≡ true) × (told (with_digits number word) ≡ v)
   unfolding digits_behind told
   value_read = by_test (is_digits word) (told (with_digits number word))
     where
-      by_test : {v : ℕ} (b : Bool) (n : ℕ) → cond b (Value n) NoDigits ≡ Value v → (b ≡ true) × (n ≡ v)
-      by_test true n e = (refl, search e)
-      by_test false n e = absurd (subst (λ (d : Digits). T (is_none d)) e tt)
+      by_test : {v : ℕ} (b : Bool) (n : ℕ) → cond b (Some n) None ≡ Some v → (b ≡ true) × (n ≡ v)
+      by_test true n e = (refl, cc)
+      by_test false n e = absurd (cc)
 
   -- and nothing of anything else
-  pub none_read : digits_behind number word ≡ NoDigits → is_digits word ≡ false
-  unfolding digits_behind told
-  none_read = by_test (is_digits word) (told (with_digits number word))
+  pub none_read : digits_behind number word ≡ None → is_digits word ≡ false
+  unfolding digits_behind
+  none_read = by_test (is_digits word) (min (with_digits number word) beyond)
     where
-      by_test : (b : Bool) (n : ℕ) → cond b (Value n) NoDigits ≡ NoDigits → b ≡ false
-      by_test true n e = absurd (subst (λ (d : Digits). T (is_none d)) (sym e) tt)
+      by_test : (b : Bool) (n : ℕ) → cond b (Some n) None ≡ None → b ≡ false
+      by_test true n e = absurd (cc)
       by_test false n e = refl
 
 -- so a number is what was read, where 32 bits hold that,
 module _ (word : List ℕ) where
-  pub number_read : {v : ℕ} → length word ≤ most_digits → digits_behind 0 word ≡ Value v → v < beyond → asked_for word ≡ Number v
+  pub number_read : {v : ℕ} → length word ≤ most_digits → digits_behind 0 word ≡ Some v → {E : Type 0} (fits : Result ℕ E) → OkIff fits (v < beyond) v → result_ok fits ≡ asked_for word
   unfolding asked_for is_number told
-  number_read {v} short e h =
+  number_read {v} short e (Ok n) h =
       let read = value_read 0 word e in
-      let made : with_digits 0 word ≡ v = omega (arith, read.1) in
-      rw (le-leb _ _ short, read.0, made, lt-ltb _ _ h)
+      let made : with_digits 0 word ≡ n = omega (arith, read.1, h.0, h.1) in
+      let small : n < beyond = omega (arith, h.0, h.1) in
+      rw (le-leb _ _ short, read.0, made, lt-ltb _ _ small)
+  number_read {v} short e (Err _) h =
+      let read = value_read 0 word e in
+      let most : beyond ≤ v = omega (arith, h) in
+      rw (le-ltb (with_digits 0 word) beyond (omega (arith, read.1, most)), and-false)
 
-  pub number_beyond : {v : ℕ} → digits_behind 0 word ≡ Value v → beyond ≤ v → asked_for word ≡ NoNumber
-  unfolding asked_for is_number told
-  number_beyond e h = let read = value_read 0 word e in rw (le-ltb (with_digits 0 word) beyond (omega (arith, read.1)), and-false)
-
-  pub number_none : digits_behind 0 word ≡ NoDigits → asked_for word ≡ NoNumber
+  pub number_none : digits_behind 0 word ≡ None → asked_for word ≡ None
   unfolding asked_for is_number
   number_none e = rw (none_read 0 word e, and-false)
 
 -- and an angle what was read of its tenth behind the degrees
 module _ (degrees tenth : List ℕ) where
-  pub angle_read : {v : ℕ} → digits_behind 0 degrees ≡ Value v → angle_in (digits_behind v tenth) ≡ angle_by degrees tenth
-  unfolding angle_by angle_in digits_behind told
-  angle_read {v} e =
-      rw (value_read 0 degrees e).0 (of_either (is_digits tenth))
+  pub angle_read : {v n : ℕ} → digits_behind 0 degrees ≡ Some v → digits_behind v tenth ≡ Some n → {E : Type 0} (fits : Result ℕ E) → OkIff fits (n < suc greatest_angle) n → Some (result_unwrap_or fits greatest_angle) ≡ angle_by degrees tenth
+  unfolding angle_by told
+  angle_read {v} {n} e f fits h =
+      rw ((value_read 0 degrees e).0, (value_read v tenth f).0)
+      (ap Some (fitted fits h ∙ sym (lesser _ _ (sym made ∙ (value_read v tenth f).1))))
     where
       made : told (with_digits v tenth) ≡ told (with_digits (with_digits 0 degrees) tenth)
       made = rw (sym (value_read 0 degrees e).1) (cut_before tenth (with_digits 0 degrees))
 
-      lesser : (a b : ℕ) → told a ≡ told b → min (told a) greatest_angle ≡ min b greatest_angle
+      lesser : (a b : ℕ) → told a ≡ b → min a greatest_angle ≡ min b greatest_angle
       lesser a b e = omega arith
 
-      of_either : (b : Bool) → angle_in (cond b (Value (told (with_digits v tenth))) NoDigits) ≡ cond b (Tenths (min (with_digits (with_digits 0 degrees) tenth) greatest_angle)) NoAngle
-      of_either true = ap Tenths (lesser _ _ made)
-      of_either false = refl
+      fitted : {E : Type 0} (fits : Result ℕ E) → OkIff fits (n < suc greatest_angle) n → result_unwrap_or fits greatest_angle ≡ min n greatest_angle
+      fitted (Ok m) h = omega (arith, h.0, h.1)
+      fitted (Err _) h = omega (arith, h)
 
-  pub angle_none : digits_behind 0 degrees ≡ NoDigits → angle_by degrees tenth ≡ NoAngle
+  pub no_degrees : digits_behind 0 degrees ≡ None → angle_by degrees tenth ≡ None
   unfolding angle_by
-  angle_none e = rw (none_read 0 degrees e)
+  no_degrees e = rw (none_read 0 degrees e)
 
-pub point_from : (word : List ℕ) → has_point word ≡ true → 3 ≤ length word
-unfolding has_point
-point_from word e = leb→le _ _ (both (leb 3 (length word)) (eqb (get_or word (length word - 2) 0) (code ".")) (rw e tt)).0
+  pub no_tenth : (v : ℕ) → digits_behind v tenth ≡ None → angle_by degrees tenth ≡ None
+  unfolding angle_by
+  no_tenth v e = rw (none_read v tenth e, and-false)
+
+-- ---- an angle with degrees, a point and a tenth behind it, or without
+
+module _ (word : List ℕ) where
+  pub without_degrees : length (take (length word - 2) word) ≡ 0 → angle_by word (ascii "0") ≡ angle_of word
+  unfolding angle_of has_point
+  without_degrees none =
+      let short : length word < 3 = omega (arith, none, length-take-le (length word - 2) word (omega arith)) in
+      rw (lt-leb 3 (length word) short)
+
+  pub without_point : (get_or word (length word - 2) 0 ≡ code "." → ⊥) → angle_by word (ascii "0") ≡ angle_of word
+  unfolding angle_of has_point
+  without_point other = rw (ne_eqb (get_or word (length word - 2) 0) (code ".") other, and-false)
+
+  tenth_last : 1 ≤ length word → drop (length word - 1) word ≡ get_or word (length word - 1) 0 ∷ []
+  tenth_last h =
+      drop-cons word (length word - 1) 0 (omega arith)
+      ∙ ap (λ (l : List ℕ). get_or word (length word - 1) 0 ∷ l) (drop_of_length-le word {i = suc (length word - 1)} (omega arith))
+
+  pub with_point : 1 ≤ length (take (length word - 2) word) → get_or word (length word - 2) 0 ≡ code "."
+      → angle_by (take (length word - 2) word) (get_or word (length word - 1) 0 ∷ []) ≡ angle_of word
+  unfolding angle_of has_point
+  with_point some point =
+      let long : 3 ≤ length word = omega (arith, some, length-take-le (length word - 2) word (omega arith)) in
+      rw (le-leb 3 (length word) long, point, tenth_last (omega arith))

@@ -1,13 +1,7 @@
 -- Words as a person keys them in, byte by byte: a number, or an angle in degrees.
-use Rattle.std.specs.Prelude.{ℕ, ◌+◌, ◌-◌, ◌*◌, ◌^◌, min, Bool, true, ◌&&◌, cond, List, [], ◌∷◌, leb, ltb, eqb, length, get_or, take, drop}
+use Rattle.std.specs.Prelude.{ℕ, ◌+◌, ◌-◌, ◌*◌, ◌^◌, min, Bool, true, ◌&&◌, cond, List, [], ◌∷◌, leb, ltb, eqb, length, get_or, take, drop, Option, Some, None}
 use Prim.Native.Char.{code}
 use Rattle.rules.specs.SheetLine.{ascii}
-use Rattle.keyed.specs.declared.Angle.{Angle}
-use Rattle.keyed.specs.declared.Angle.TheVariants.{Tenths, NoAngle}
-use Rattle.keyed.specs.declared.Asked.{Asked}
-use Rattle.keyed.specs.declared.Asked.TheVariants.{Number, NoNumber}
-use Rattle.keyed.specs.declared.Digits.{Digits}
-use Rattle.keyed.specs.declared.Digits.TheVariants.{Value, NoDigits}
 
 -- ---- digits
 
@@ -38,8 +32,8 @@ most_digits = 10
 unfoldable pub is_number : List ℕ → Bool
 is_number word = leb (length word) most_digits && is_digits word && ltb (with_digits 0 word) beyond
 
-unfoldable pub asked_for : List ℕ → Asked
-asked_for word = cond (is_number word) (Number (with_digits 0 word)) NoNumber
+unfoldable pub asked_for : List ℕ → Option ℕ
+asked_for word = cond (is_number word) (Some (with_digits 0 word)) None
 
 -- ---- an angle: digits, the degrees; and behind a point one more, the tenth, if at all
 
@@ -51,18 +45,14 @@ has_point word = leb 3 (length word) && eqb (get_or word (length word - 2) 0) (c
 abbrev pub greatest_angle : ℕ
 greatest_angle = 65535
 
-unfoldable pub angle_by : List ℕ → List ℕ → Angle
+unfoldable pub angle_by : List ℕ → List ℕ → Option ℕ
 angle_by degrees tenth =
-    cond (is_digits degrees && is_digits tenth) (Tenths (min (with_digits (with_digits 0 degrees) tenth) greatest_angle)) NoAngle
+    cond (is_digits degrees && is_digits tenth) (Some (min (with_digits (with_digits 0 degrees) tenth) greatest_angle)) None
 
-unfoldable pub angle_of : List ℕ → Angle
+unfoldable pub angle_of : List ℕ → Option ℕ
 angle_of word = cond (has_point word) (angle_by (take (length word - 2) word) (drop (length word - 1) word)) (angle_by word (ascii "0"))
 
 -- ---- what the code reads of digits: a number beyond 32 bits is kept as the least such
 
-unfoldable pub digits_behind : ℕ → List ℕ → Digits
-digits_behind n word = cond (is_digits word) (Value (min (with_digits n word) beyond)) NoDigits
-
-unfoldable pub angle_in : Digits → Angle
-angle_in (Value tenths) = Tenths (min tenths greatest_angle)
-angle_in NoDigits = NoAngle
+unfoldable pub digits_behind : ℕ → List ℕ → Option ℕ
+digits_behind n word = cond (is_digits word) (Some (min (with_digits n word) beyond)) None

@@ -36,3 +36,7 @@ pub no_check : (found n : ℕ) (rest : List Check) → All (λ check. n ≡ bit 
 unfolding has_failed
 no_check found n [] others = refl
 no_check found n (check ∷ rest) others = rw (ne_eqb n (bit check) others.0) (no_check found n rest others.1)
+
+pub of_none : (n : ℕ) (rest : List Check) → ((check : Check) → n ≡ bit check → ⊥) → All (λ check. n ≡ bit check → ⊥) rest
+of_none n [] none = tt
+of_none n (check ∷ rest) none = (none check, of_none n rest none)

@@ -1,15 +1,14 @@
 -- What C is given: an answer and what it has besides in one number, and a drawing's figures in a lent buffer, which document 01 has as values. A check is asked for by its bit.
-use Rattle.std.specs.Prelude.{ℕ, ◌+◌, ◌*◌, ◌<◌, ◌^◌, ◌≡◌, Bool, false, ◌&&◌, cond, List, [], ◌∷◌, ltb, eqb, ℤ, Float, length}
-use Rattle.rules.specs.declared.Answer.{Answer}
-use Rattle.rules.specs.declared.Answer.TheVariants.{BufferTooShort}
+use Rattle.std.specs.Prelude.{ℕ, ◌+◌, ◌*◌, ◌<◌, ◌^◌, ◌≡◌, Bool, false, cond, List, [], ◌∷◌, ltb, eqb, ℤ, Float, length, is_ok, Result, Ok, Err}
+use Rattle.rules.specs.declared.Refusal.{Refusal}
+use Rattle.rules.specs.declared.Refusal.TheVariants.{BufferTooShort}
 use Rattle.rules.specs.declared.Check.{Check}
-use Rattle.rules.specs.declared.Drawn.{Drawn}
 use Rattle.rules.specs.declared.Shape.{Shape}
 use Rattle.rules.specs.declared.Shape.TheVariants.{Whole, ToeTriangle, HeelTriangle, Nothing}
 use Rattle.rules.specs.JobFile.{File}
-use Rattle.rules.specs.Answered.{number, place, is_worked}
+use Rattle.rules.specs.Answered.{Answer, number, place, refused_if, ◌or_else◌, ◌gives◌}
 use Rattle.rules.specs.SheetLine.{bit, is_set, answer_to, buffer_after}
-use Rattle.rules.specs.Drawing.{undrawn, drawing_for}
+use Rattle.rules.specs.Drawing.{answer_to_drawing, drawn}
 use Rattle.rules.specs.Beyond.{onto, figures}
 use Rattle.rules.specs.WrittenFile.{writing_answer, bytes_written, taking_answer, walls_taken, loads_taken}
 
@@ -28,6 +27,15 @@ pub record Packs (answer : Answer) (besides r : ℕ) : Type 0 where
   pub is : r ≡ packed answer besides
   pub fits : place answer < 2 ^ 32
 
+-- of a result: whether all is well, and what it has besides; a refusal has nothing
+abbrev pub answer_of : Result ℕ Refusal → Answer
+answer_of (Ok besides) = Ok tt
+answer_of (Err refusal) = Err refusal
+
+abbrev pub besides_of : Result ℕ Refusal → ℕ
+besides_of (Ok besides) = besides
+besides_of (Err refusal) = 0
+
 -- ---- the sheet in numbers; it has nothing besides
 
 pub record CalculatesPacked (file : File) (before : List ℤ) (r : ℕ) (after : List ℤ) : Type 0 where
@@ -40,20 +48,24 @@ pub record CalculatesPacked (file : File) (before : List ℤ) (r : ℕ) (after :
 abbrev pub figure_room : ℕ
 figure_room = 5
 
--- what is drawn where room for so many figures is lent: the refusals of the file, then 18, and 8 last
-unfoldable pub drawing_to : File → ℕ → ℕ → Drawn
-drawing_to file n room =
-    let asked = drawing_for file n in
-    cond (is_worked asked.answer && ltb room figure_room) (undrawn BufferTooShort) asked
+-- what is answered where room for so many figures is lent: the refusals of the file, then 18, and 8 last
+unfoldable pub drawing_answer : File → ℕ → ℕ → Answer
+drawing_answer file n room = answer_to_drawing file n or_else refused_if (ltb room figure_room) BufferTooShort
+
+-- the number of the shape that is drawn; of a refusal 0
+unfoldable pub shape_drawn : File → ℕ → ℕ → ℕ
+shape_drawn file n room = cond (is_ok (drawing_answer file n room)) (shape_number (drawn file n).shape) 0
 
 -- the figures, and beyond them what stood there; of a refusal all that stood there
 unfoldable pub figures_after : File → ℕ → List Float → List Float
-figures_after file n before =
-    let given = drawing_to file n (length before) in
-    cond (is_worked given.answer) (onto (figures given) before) before
+figures_after file n before = cond (is_ok (drawing_answer file n (length before))) (onto (figures (drawn file n)) before) before
+
+pub record PutsDrawing (file : File) (n : ℕ) (before : List Float) (answer : Result ℕ Refusal) (after : List Float) : Type 0 where
+  pub answered : answer ≡ (drawing_answer file n (length before) gives shape_drawn file n (length before))
+  pub holds : after ≡ figures_after file n before
 
 pub record DrawsPacked (file : File) (n : ℕ) (before : List Float) (r : ℕ) (after : List Float) : Type 0 where
-  pub answered : Packs (drawing_to file n (length before)).answer (shape_number (drawing_to file n (length before)).shape) r
+  pub answered : Packs (drawing_answer file n (length before)) (shape_drawn file n (length before)) r
   pub holds : after ≡ figures_after file n before
 
 -- ---- a job file written, with how many bytes it took, and taken apart

@@ -2,12 +2,13 @@
 // a line say of a check. Any bytes are a job, any numbers are records, and any buffer may be lent.
 #![tactic(auto)]
 
-ghost use Rattle.std.specs.Prelude.{[], ◌∷◌, ◌≡◌, ◌≤◌, ◌<◌, ◌^◌, length};
+ghost use Rattle.std.specs.Prelude.{◌≡◌, ◌≤◌, ◌<◌, ◌^◌, length, MatchOption};
+ghost use Rattle.rules.specs.declared.Check.{Check};
 ghost use Rattle.rules.specs.Beyond.{Prints, onto, shape_figures, figures};
-ghost use Rattle.rules.specs.SheetLine.{checks};
-ghost use Rattle.office.specs.Packed.{shape_number, Packs, figure_room, CalculatesPacked, DrawsPacked, WritesPacked, TakesApartPacked, has_failed};
+ghost use Rattle.rules.specs.SheetLine.{checks, bit as bit_of};
+ghost use Rattle.office.specs.Packed.{shape_number, Packs, answer_of, besides_of, figure_room, CalculatesPacked, PutsDrawing, DrawsPacked, WritesPacked, TakesApartPacked, has_failed};
 
-use rules::{Answer, Check, Drawn, Shape};
+use rules::{Check, Drawn, Refusal, Shape};
 
 // A refusal's number stands above the 32 bits of its place.
 const NUMBER: u64 = 1 << 32;
@@ -30,34 +31,30 @@ fn shape_number(shape: Shape) -> u64
     }
 }
 
-// An answer and what it has besides, in one number.
-fn packed(answer: Answer, besides: u64) -> u64
-    requires { besides < 2 ^ 16 }
-    ensures { Packs answer besides result }
+// An answer in one number: what it has besides where all is well, or the refusal.
+fn packed(answer: Result<u64, Refusal>) -> u64
+    requires { besides_of answer < 2 ^ 16 }
+    ensures { Packs (answer_of answer) (besides_of answer) result }
 {
-    let place = reply::place_of(answer) as u64;
-    let number = reply::number_of(answer) as u64;
-    place + NUMBER * number + BESIDES * besides
+    match answer {
+        Ok(besides) => BESIDES * besides,
+        Err(refusal) => {
+            let place = u64::from(reply::place_of(Err(refusal)));
+            let number = u64::from(reply::number_of(Err(refusal)));
+            place + NUMBER * number
+        }
+    }
 }
 
-// Two figures, at the start of what is lent.
-fn put_pair(x: f64, y: f64, out: &mut [f64])
-    requires { 2 ≤ length out.old }
-    ensures { out.new ≡ onto (x ∷ y ∷ []) out.old }
-{
-    out[0] = x;
-    out[1] = y;
-}
-
-// A shape's own two, where it has them.
+// A shape's own two figures, where it has them.
 fn put_shape(shape: Shape, out: &mut [f64])
     requires { 2 ≤ length out.old }
     ensures { out.new ≡ onto (shape_figures shape) out.old }
 {
     match shape {
-        Shape::Whole(toe, heel) => put_pair(toe, heel, out),
-        Shape::ToeTriangle(peak, contact) => put_pair(peak, contact, out),
-        Shape::HeelTriangle(peak, contact) => put_pair(peak, contact, out),
+        Shape::Whole(first, second)
+        | Shape::ToeTriangle(first, second)
+        | Shape::HeelTriangle(first, second) => out[..2].copy_from_slice(&[first, second]),
         Shape::Nothing => {}
     }
 }
@@ -68,17 +65,33 @@ fn put_figures(drawn: Drawn, out: &mut [f64])
     ensures { out.new ≡ onto (figures drawn) out.old }
 {
     let drawing = drawn.drawing;
-    let shape = drawn.shape;
-    put_pair(drawing.R, drawing.H, out);
-    out[2] = drawing.distance;
-    put_shape(shape, &mut out[3..]);
+    out[..3].copy_from_slice(&[drawing.R, drawing.H, drawing.distance]);
+    put_shape(drawn.shape, &mut out[3..]);
+}
+
+// The check that has a bit, where one has it.
+fn check_of(bit: u16) -> Option<Check>
+    ensures { MatchOption result ((check : Check) → bit ≡ bit_of check → ⊥) (λ check. bit ≡ bit_of check) }
+{
+    match bit {
+        1 => Some(Check::Slides),
+        2 => Some(Check::Overturns),
+        4 => Some(Check::OverAllowable),
+        8 => Some(Check::NoServiceBlock),
+        16 => Some(Check::NoFactoredBlock),
+        32 => Some(Check::ToeSteel),
+        64 => Some(Check::StemSteel),
+        128 => Some(Check::Sheared),
+        256 => Some(Check::HeelSteel),
+        _ => None,
+    }
 }
 
 // The sheet of a job in numbers: nineteen for each wall, and whatever stands behind them as it was; or a refusal, and the buffer as it was.
 pub fn office_calculate(job: &[u8], out: &mut [i64]) -> u64
     ensures { CalculatesPacked job.now out.old result out.new }
 {
-    packed(sheet::calculate(job, out), 0)
+    packed(sheet::calculate(job, out).map(|_| 0))
 }
 
 // The sheet of a job as it is printed, at the start of the buffer, and how many bytes it took; a refusal is printed too. Without room for the text of
@@ -89,23 +102,24 @@ pub fn office_text(job: &[u8], out: &mut [u8]) -> usize
     sheet::text(job, out)
 }
 
+// The figures of a wall's drawing are put, and its shape's number is answered; or a refusal.
+fn put_drawing(job: &[u8], wall: u32, out: &mut [f64]) -> Result<u64, Refusal>
+    ensures { PutsDrawing job.now wall out.old result out.new }
+{
+    let drawn = sheet::drawing(job, wall)?;
+    if out.len() < FIGURE_ROOM {
+        return Err(Refusal::BufferTooShort);
+    }
+    put_figures(drawn, out);
+    Ok(shape_number(drawn.shape))
+}
+
 // The drawing of a wall, by its number in the file: its figures, and whatever stands behind them as it was; or a refusal, and the buffer as it was.
 // Room for five figures is wanted, whatever the shape.
 pub fn office_drawing(job: &[u8], wall: u32, out: &mut [f64]) -> u64
     ensures { DrawsPacked job.now wall out.old result out.new }
 {
-    let drawn = sheet::drawing(job, wall);
-    let answer = drawn.answer;
-    let shape = drawn.shape;
-    let besides = shape_number(shape);
-    if !reply::is_worked(answer) {
-        return packed(answer, besides);
-    }
-    if out.len() < FIGURE_ROOM {
-        return packed(Answer::BufferTooShort, 0);
-    }
-    put_figures(drawn, out);
-    packed(answer, besides)
+    packed(put_drawing(job, wall, out))
 }
 
 // The job file that records make, at the start of the buffer, and whatever stands behind it as it was; the answer has how many bytes it took. Or a
@@ -113,9 +127,7 @@ pub fn office_drawing(job: &[u8], wall: u32, out: &mut [f64]) -> u64
 pub fn office_write(walls: &[u32], loads: &[u32], out: &mut [u8]) -> u64
     ensures { WritesPacked walls.now loads.now out.old result out.new }
 {
-    let written = writing::write(walls, loads, out);
-    let answer = written.answer;
-    packed(answer, written.bytes as u64)
+    packed(writing::write(walls, loads, out).map(|bytes| bytes as u64))
 }
 
 // The records of a job's walls and of its loads, each at the start of a buffer, and whatever stands behind them as it was; or a refusal, and both buffers
@@ -123,25 +135,15 @@ pub fn office_write(walls: &[u32], loads: &[u32], out: &mut [u8]) -> u64
 pub fn office_records(job: &[u8], walls: &mut [u32], loads: &mut [u32]) -> u64
     ensures { TakesApartPacked job.now walls.old loads.old result walls.new loads.new }
 {
-    let taken = job::take_apart(job, walls, loads);
-    let answer = taken.answer;
-    packed(answer, 0)
+    packed(job::take_apart(job, walls, loads).map(|_| 0))
 }
 
 // Is the bit of a check set in the failures of a line? The check is named by its bit; of a number that is no check's bit the answer is false.
 pub fn office_has_failed(failures: u16, check: u16) -> bool
     ensures { result ≡ has_failed checks failures check }
 {
-    match check {
-        1 => checks::has_failed(failures, Check::Slides),
-        2 => checks::has_failed(failures, Check::Overturns),
-        4 => checks::has_failed(failures, Check::OverAllowable),
-        8 => checks::has_failed(failures, Check::NoServiceBlock),
-        16 => checks::has_failed(failures, Check::NoFactoredBlock),
-        32 => checks::has_failed(failures, Check::ToeSteel),
-        64 => checks::has_failed(failures, Check::StemSteel),
-        128 => checks::has_failed(failures, Check::Sheared),
-        256 => checks::has_failed(failures, Check::HeelSteel),
-        _ => false,
+    match check_of(check) {
+        Some(check) => checks::has_failed(failures, check),
+        None => false,
     }
 }

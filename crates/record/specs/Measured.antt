@@ -2,7 +2,7 @@
 use Rattle.rules.specs.JobFile.{Wall, base_length, wall_height, downstand_depth, downstand_position}
 use Rattle.record.specs.declared.Measures.{Measures}
 
-unfoldable pub measures_of : Wall → Measures
+abbrev pub measures_of : Wall → Measures
 measures_of wall =
     record {
       height = wall_height wall;

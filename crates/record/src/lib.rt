@@ -7,7 +7,7 @@ ghost use Rattle.rules.specs.Answered.{wall_answer};
 ghost use Rattle.rules.specs.Beyond.{load_answer, first_unfit, examined};
 ghost use Rattle.record.specs.Measured.{measures_of};
 
-use rules::{Answer, BARS, Range};
+use rules::{Answer, BARS, Range, Refusal};
 
 // A wall is a number for each of its fields, in file order.
 pub const FIELDS: usize = 38;
@@ -121,14 +121,6 @@ pub const ENTRY_BYTES: usize = 4 * ENTRY_FIELDS;
 
 pub const WALL_NUMBER: usize = 0;
 
-const ENTRY_DIRECTION: usize = 1 + DIRECTION;
-
-const ENTRY_POSITION: usize = 1 + POSITION;
-
-const ENTRY_DEAD: usize = 1 + DEAD;
-
-const ENTRY_LIVE: usize = 1 + LIVE;
-
 // How many walls a file may have, and how many loads.
 pub const MOST_WALLS: usize = 64;
 
@@ -184,17 +176,11 @@ const RANGES: [Range; FIELDS] = [
 // The greatest dead load, and the greatest live load, in N/m.
 const GREATEST_LOAD: u32 = 200000;
 
-fn wide(n: u32) -> u64
-    ensures { (result ≡ n) × (result < 2 ^ 32) }
-{
-    n as u64
-}
-
 // The field at an index, which is its number less 1; 0 behind the last.
 pub fn field(wall: Wall, i: usize) -> u64
     ensures { (result ≡ get_or wall i 0) × (result < 2 ^ 32) }
 {
-    if i < FIELDS { wide(wall[i]) } else { 0 }
+    wall.get(i).map_or(0, |n| u64::from(*n))
 }
 
 // The base's length l: toe, stem and heel.
@@ -221,12 +207,7 @@ pub fn wall_height(wall: Wall) -> u64
 fn is_bar(n: u32) -> bool
     ensures { result ≡ among n bars }
 {
-    for i in 0..BARS.len() {
-        if n == BARS[i] {
-            return true;
-        }
-    }
-    false
+    BARS.contains(&n)
 }
 
 // What a wall's ranges go by: its height, its base's length, and the depth and position of its downstand.
@@ -255,14 +236,16 @@ fn is_within(measures: Measures, range: Range, n: u32) -> bool
 {
     match range {
         Range::Between(low, high) => low <= n && n <= high,
-        Range::UpToTop => n as u64 <= measures.height,
+        Range::UpToTop => u64::from(n) <= measures.height,
         Range::AlongBase => if 0 < measures.depth {
-            n as u64 <= measures.length
+            u64::from(n) <= measures.length
         } else {
             n == 0
         },
         Range::UnderBase(low, high) => if 0 < measures.depth {
-            (low <= n) & (n <= high) & (measures.position as u64 + n as u64 <= measures.length)
+            (low <= n)
+                & (n <= high)
+                & (u64::from(measures.position) + u64::from(n) <= measures.length)
         } else {
             n == 0
         },
@@ -270,29 +253,26 @@ fn is_within(measures: Measures, range: Range, n: u32) -> bool
     }
 }
 
-// The number of the first field out of range, in field order; 0 where there is none.
-fn first_bad_field(wall: Wall) -> u16
+// The number of the first field out of range, in field order.
+fn first_bad_field(wall: Wall) -> Option<u16>
     ensures { result ≡ first_bad_field wall }
 {
-    let ranges = RANGES;
     let measures = measures_of(wall);
-    for i in 0..FIELDS {
-        if !is_within(measures, ranges[i], wall[i]) {
-            return i as u16 + 1;
-        }
-    }
-    0
+    let place = wall
+        .iter()
+        .zip(&RANGES)
+        .position(|(n, range)| !is_within(measures, *range, *n))?;
+    Some(place as u16 + 1)
 }
 
 // 5: a wall with a field out of range is refused, at the number that it has and at the first such field.
+#[tactic(auto, unfolding(rules::specs::Answered::wall_answer))]
 pub fn wall_answer(wall: Wall, number: u16) -> Answer
     ensures { result ≡ wall_answer number wall }
 {
-    let field = first_bad_field(wall);
-    if field == 0 {
-        Answer::Worked
-    } else {
-        Answer::WallOutOfRange(number, field)
+    match first_bad_field(wall) {
+        Some(field) => Err(Refusal::WallOutOfRange(number, field)),
+        None => Ok(()),
     }
 }
 
@@ -311,71 +291,55 @@ fn reach_of(wall: Wall, load: Load) -> u64
 pub fn load_fits(wall: Wall, load: Load) -> bool
     ensures { result ≡ load_fits wall load }
 {
-    if 1 < load[DIRECTION] {
-        return false;
-    }
-    if reach_of(wall, load) < load[POSITION] as u64 {
-        return false;
-    }
-    load[DEAD] <= GREATEST_LOAD && load[LIVE] <= GREATEST_LOAD
+    load[DIRECTION] <= 1
+        && u64::from(load[POSITION]) <= reach_of(wall, load)
+        && load[DEAD] <= GREATEST_LOAD
+        && load[LIVE] <= GREATEST_LOAD
 }
 
 // An entry's load: everything but the number of its wall.
 pub fn load_of(entry: Entry) -> Load
     ensures { result ≡ load_of entry }
 {
-    [
-        entry[ENTRY_DIRECTION],
-        entry[ENTRY_POSITION],
-        entry[ENTRY_DEAD],
-        entry[ENTRY_LIVE],
-    ]
+    let [_, direction, position, dead, live] = entry;
+    [direction, position, dead, live]
 }
 
 // 6 and 7: what is answered of the load with a number, by whether it fits and how many were passed on its wall.
 pub fn load_answer(fits: bool, passed: u32, number: u32) -> Answer
     ensures { result ≡ load_answer fits passed number }
 {
-    let out_of_range = reply::refused_if(!fits, Answer::LoadOutOfRange(number));
-    let one_more = reply::refused_if(
-        MOST_LOADS_ON_WALL as u32 <= passed,
-        Answer::NinthLoad(number),
-    );
-    reply::or_else(out_of_range, one_more)
+    if !fits {
+        return Err(Refusal::LoadOutOfRange(number));
+    }
+    if MOST_LOADS_ON_WALL as u32 <= passed {
+        return Err(Refusal::NinthLoad(number));
+    }
+    Ok(())
 }
 
 // How many loads were passed on the wall with a number; none on a wall that no file can have.
 pub fn count_on(counts: Counts, number: u32) -> u32
     ensures { result ≡ get_or counts number 0 }
 {
-    let n = number as usize;
-    if n < COUNTS { counts[n] } else { 0 }
+    counts.get(number as usize).map_or(0, |count| *count)
 }
 
-// The number of the first load that doesn't fit the wall, from 1; 0 where there is none.
-fn first_unfit(wall: Wall, loads: Loads) -> u32
+// The number of the first load that doesn't fit the wall, from 1.
+fn first_unfit(wall: Wall, loads: Loads) -> Option<u32>
     ensures { result ≡ first_unfit wall 1 loads }
 {
-    for i in 0..MOST_LOADS_ON_WALL {
-        if !load_fits(wall, loads[i]) {
-            return i as u32 + 1;
-        }
-    }
-    0
+    let place = loads.iter().position(|load| !load_fits(wall, *load))?;
+    Some(place as u32 + 1)
 }
 
 // One wall with its loads by itself: as a file would be answered that has just these. An absent load is a row of zeros, which fits any wall.
 pub fn examined(wall: Wall, loads: Loads) -> Answer
     ensures { result ≡ examined wall loads }
 {
-    let answer = wall_answer(wall, 1);
-    if !reply::is_worked(answer) {
-        return answer;
-    }
-    let unfit = first_unfit(wall, loads);
-    if unfit == 0 {
-        Answer::Worked
-    } else {
-        Answer::LoadOutOfRange(unfit)
+    wall_answer(wall, 1)?;
+    match first_unfit(wall, loads) {
+        Some(load) => Err(Refusal::LoadOutOfRange(load)),
+        None => Ok(()),
     }
 }

@@ -1,4 +1,6 @@
 -- Rows of absent loads behind a wall's own: an absent load has nothing but zeros, it fits any wall, and no figure of the wall tells that it is there.
+use Rattle.rules.proofs.Replies.{gives_worked}
+use Rattle.std.specs.Prelude.{Ok}
 use mathlib.Core.Path.{◌≡◌, refl, sym, ap, ◌∙◌}
 use mathlib.Core.List.{List, [], ◌∷◌, ◌++◌, append-nil}
 use Prim.Native.Nat.{ℕ, zero, suc, ◌+◌, ◌≤◌}
@@ -6,13 +8,12 @@ use lib.Dec.{T}
 use lib.Ieee.Bits.{is_true}
 use lib.ListN.{length, replicate}
 use lib.Seq.{append_snoc}
-use Rattle.rules.specs.declared.Answer.TheVariants.{Worked}
 use Rattle.rules.specs.JobFile.{Wall, Load, most_loads_on_wall, direction, position, dead_load, live_load, is_down}
 use Rattle.rules.specs.Forces.{Component}
 use Rattle.rules.specs.Bearing.{service_block, factored_block}
 use Rattle.rules.specs.ToeAndStem.{stem_load_rows, stem_load_table, stem_table, stem_action, toe, stem, heel}
 use Rattle.rules.specs.SheetLine.{worked_wall, numbers_by, line}
-use Rattle.rules.specs.Beyond.{fits, worked_forces, worked_bearing, bearing_of, line_of}
+use Rattle.rules.specs.Beyond.{fits, worked_forces, worked_bearing, bearing_of, line_of, examined}
 use Rattle.rules.proofs.Additive.{idle}
 use Rattle.rules.proofs.Carries.{worked_blocks}
 use Rattle.rules.proofs.Examined.{fit, fits_of, absent_fits, filled}
@@ -64,9 +65,9 @@ module _ (wall : Wall) {load : Load} (absent : Absent load) where
           fits_of wall (loads ++ replicate n load) (filled wall loads n load suits room (fit wall loads worked))
 
       -- so what is answered of it with them is what the rules work of it under its own loads
-      pub borne_with : bearing_of wall (loads ++ replicate n load) ≡ worked_bearing wall loads
-      borne_with = worked_blocks wall (loads ++ replicate n load) (is_true (fits wall (loads ++ replicate n load)) fits_same) ∙ bearing_same
+      pub borne_with : bearing_of wall (loads ++ replicate n load) ≡ Ok (worked_bearing wall loads)
+      borne_with = worked_blocks wall (loads ++ replicate n load) (is_true (fits wall (loads ++ replicate n load)) fits_same) ∙ ap Ok bearing_same
 
-      pub line_with : (number : ℕ) → line_of number wall (loads ++ replicate n load) ≡ record { answer = Worked; numbers = line number wall loads }
+      pub line_with : (number : ℕ) → line_of number wall (loads ++ replicate n load) ≡ Ok (line number wall loads)
       unfolding line_of
-      line_with number = rw (is_true (fits wall (loads ++ replicate n load)) fits_same, line_same number)
+      line_with number = gives_worked (examined wall (loads ++ replicate n load)) _ fits_same ∙ ap Ok (line_same number)

@@ -1,6 +1,8 @@
 -- What it tells of a wall that its fields fit: each of the 38 lies in its range. One law serves all of them, since the ranges stand in a table.
 -- And what it tells of a load that it fits its wall.
-use mathlib.Core.Path.{◌≡◌, refl, sym, subst}
+use Rattle.std.proofs.lemmas.Bool.{false≢true}
+use Rattle.std.specs.Prelude.{Option, None, Some, is_none}
+use mathlib.Core.Path.{◌≡◌, refl, sym, subst, ap}
 use mathlib.Core.Bool.{Bool, true, false, ◌&&◌, ◌||◌, cond, and-eq-true_iff}
 use mathlib.Core.List.{List, [], ◌∷◌}
 use Prim.Native.Nat.{ℕ, zero, suc, ◌+◌, ◌-◌, ◌≤◌, ◌<◌}
@@ -38,27 +40,36 @@ among_has p n (m ∷ ms) all t =
 
 -- ---- every field of a wall that fits
 
-passed : (b : Bool) (rest number : ℕ) → cond b rest (suc number) ≡ 0 → T b × (rest ≡ 0)
+passed : (b : Bool) (rest : Option ℕ) (number : ℕ) → cond b rest (Some number) ≡ None → T b × (rest ≡ None)
 passed true rest number e = (tt, e)
-passed false rest number e = absurd (omega arith)
+passed false rest number e = absurd (false≢true (ap is_none e))
 
 -- where none from a number on is outside its range, each is within
-inside : (wall : Wall) (number : ℕ) (rs : List Range) → first_outside wall (suc number) rs ≡ 0
+inside : (wall : Wall) (number : ℕ) (rs : List Range) → first_outside wall (suc number) rs ≡ None
     → (i : ℕ) → i < length rs → T (within wall (get_or rs i ABar) (get_or wall (number + i) 0))
 unfolding first_outside
 inside wall number [] e i h = absurd (omega arith)
 inside wall number (r ∷ rs) e zero h =
     let k : suc number - 1 ≡ number + 0 = omega arith in
-    rw k at (passed (within wall r (field wall (suc number))) _ number e).0
+    rw k at (passed (within wall r (field wall (suc number))) _ _ e).0
 inside wall number (r ∷ rs) e (suc i) h =
     let k : suc number + i ≡ number + suc i = omega arith in
-    rw k at (inside wall (suc number) rs (passed (within wall r (field wall (suc number))) _ number e).1 i (omega arith))
+    rw k at (inside wall (suc number) rs (passed (within wall r (field wall (suc number))) _ _ e).1 i (omega arith))
+
+-- a wall that fits has no field out of range
+pub no_bad_field : (wall : Wall) → T (wall_fits wall) → first_bad_field wall ≡ None
+unfolding wall_fits
+no_bad_field wall = go (first_bad_field wall)
+  where
+    go : (bad : Option ℕ) → T (is_none bad) → bad ≡ None
+    go None t = refl
+    go (Some field) t = absurd t
 
 -- the field at an index, which is its number less 1
 pub field_within : (wall : Wall) → T (wall_fits wall) → (i : ℕ) → i < wall_fields → T (within wall (get_or ranges i ABar) (get_or wall i 0))
-unfolding wall_fits first_bad_field
+unfolding first_bad_field
 field_within wall fits i h =
-    let k : 0 + i ≡ i = omega arith in rw k at (inside wall 0 ranges (eqb→eq (first_bad_field wall) 0 fits) i h)
+    let k : 0 + i ≡ i = omega arith in rw k at (inside wall 0 ranges (no_bad_field wall fits) i h)
 
 -- a number lies between two others, both included
 abbrev pub Lies : ℕ → ℕ → ℕ → Type 0

@@ -1,4 +1,6 @@
 -- What it tells of a whole job file that it is accepted: its header, its walls and its loads have passed every test. A law for each of them.
+use Rattle.rules.specs.declared.Refusal.{Refusal}
+use Rattle.std.specs.Prelude.{is_ok, Option, None, Some, is_none}
 use mathlib.Core.Path.{◌≡◌, refl, sym, ap, ◌∙◌}
 use mathlib.Core.Bool.{Bool, true, false, not, cond, and-eq-true_iff}
 use mathlib.Core.List.{List, [], ◌∷◌, ◌++◌, append-nil}
@@ -11,10 +13,9 @@ use lib.Seq.{append_snoc}
 use borrow.Author.Tests.{eqb-true, leb-true}
 use Rattle.whole.proofs.Lists.{of_either}
 use Rattle.rules.proofs.Accepted.{both}
-use Rattle.rules.specs.declared.Answer.{Answer}
-use Rattle.rules.specs.declared.Answer.TheVariants.{TooShort, WrongEdition, CountOutOfRange, WrongOffset, WrongLength, WallOutOfRange, LoadOutOfRange, NinthLoad}
+use Rattle.rules.specs.declared.Refusal.TheVariants.{TooShort, WrongEdition, CountOutOfRange, WrongOffset, WrongLength, LoadOutOfRange, NinthLoad}
 use Rattle.rules.specs.JobFile.{File, Wall, Load, Entry, this_edition, edition, wall_count, load_count, whole_length, header_bytes, entry_bytes, most_walls, most_loads, most_loads_on_wall, entries_at, wall_at, entry_at, records_from, walls, entries, wall_of, load_of, loads_on, first_bad_field, wall_fits, load_fits}
-use Rattle.rules.specs.Answered.{is_worked, refused_if, ◌or_else◌, counts_fit, offsets_fit, length_fits, wall_answer, first_bad_wall, is_there, numbered, entry_fits, is_one_more, first_bad_load, first_refusal, accepted}
+use Rattle.rules.specs.Answered.{refused_if, ◌or_else◌, counts_fit, offsets_fit, length_fits, wall_answer, first_bad_wall, is_there, numbered, entry_fits, is_one_more, first_bad_load, first_refusal, accepted, Answer, refused_at}
 
 -- ---- records in file order, and the loads of a wall among them
 
@@ -69,26 +70,26 @@ there_is file n t = omega (arith, leb-true, walls_length file, simp and-eq-true_
 -- ---- tests that were passed
 
 -- where the first refusal of two is none, there is neither
-pub first_worked : (a b : Answer) → T (is_worked (a or_else b)) → T (is_worked a) × T (is_worked b)
-first_worked a b t = go (is_worked a) refl t
+pub first_worked : (a b : Answer) → T (is_ok (a or_else b)) → T (is_ok a) × T (is_ok b)
+first_worked a b t = go (is_ok a) refl t
   where
-    go : (worked : Bool) → is_worked a ≡ worked → T (is_worked (cond worked b a)) → T (is_worked a) × T (is_worked b)
+    go : (worked : Bool) → is_ok a ≡ worked → T (is_ok (cond worked b a)) → T (is_ok a) × T (is_ok b)
     go true e t = (rw e tt, t)
     go false e t = absurd (rw e at t)
 
 -- where a refusal did not come, its test does not hold
-pub not_refused : (test : Bool) (refusal : Answer) → is_worked refusal ≡ false → T (is_worked (refused_if test refusal)) → T (not test)
-not_refused true refusal e t = absurd (rw e at t)
-not_refused false refusal e t = tt
+pub not_refused : (test : Bool) (refusal : Refusal) → T (is_ok (refused_if test refusal)) → T (not test)
+not_refused true refusal t = absurd t
+not_refused false refusal t = tt
 
 -- and where it would come unless a test holds, that test does
-pub passes : (test : Bool) (refusal : Answer) → is_worked refusal ≡ false → T (is_worked (refused_if (not test) refusal)) → T test
-passes true refusal e t = tt
-passes false refusal e t = absurd (rw e at t)
+pub passes : (test : Bool) (refusal : Refusal) → T (is_ok (refused_if (not test) refusal)) → T test
+passes true refusal t = tt
+passes false refusal t = absurd t
 
 -- so with other refusals behind it: the test holds, and there are none of those
-step : (test : Bool) (refusal rest : Answer) → is_worked refusal ≡ false → T (is_worked (refused_if (not test) refusal or_else rest)) → T test × T (is_worked rest)
-step test refusal rest e t = let h = first_worked (refused_if (not test) refusal) rest t in (passes test refusal e h.0, h.1)
+step : (test : Bool) (refusal : Refusal) (rest : Answer) → T (is_ok (refused_if (not test) refusal or_else rest)) → T test × T (is_ok rest)
+step test refusal rest t = let h = first_worked (refused_if (not test) refusal) rest t in (passes test refusal h.0, h.1)
 
 -- what the tests from 2 on leave; test 1 asks for less than that of the length
 record Passed (file : File) : Type 0 where
@@ -96,17 +97,17 @@ record Passed (file : File) : Type 0 where
   counts : T (counts_fit file)
   offsets : T (offsets_fit file)
   ended : T (length_fits file)
-  no_bad_wall : T (is_worked (first_bad_wall 1 (walls file)))
-  no_bad_load : T (is_worked (first_bad_load (walls file) [] 1 (entries file)))
+  no_bad_wall : T (is_ok (first_bad_wall 1 (walls file)))
+  no_bad_load : T (is_ok (first_bad_load (walls file) [] 1 (entries file)))
 
 passed : (file : File) → T (accepted file) → Passed file
 unfolding first_refusal
 passed file t =
     let past1 = (first_worked (refused_if (ltb (length file) header_bytes) TooShort) _ t).1 in
-    let past2 = step (eqb (edition file) this_edition) WrongEdition _ refl past1 in
-    let past3 = step (counts_fit file) CountOutOfRange _ refl past2.1 in
-    let past4 = step (offsets_fit file) WrongOffset _ refl past3.1 in
-    let past10 = step (length_fits file) WrongLength _ refl past4.1 in
+    let past2 = step (eqb (edition file) this_edition) WrongEdition _ past1 in
+    let past3 = step (counts_fit file) CountOutOfRange _ past2.1 in
+    let past4 = step (offsets_fit file) WrongOffset _ past3.1 in
+    let past10 = step (length_fits file) WrongLength _ past4.1 in
     let past5 = first_worked (first_bad_wall 1 (walls file)) _ past10.1 in
     record { one = past2.0; counts = past3.0; offsets = past4.0; ended = past10.0; no_bad_wall = past5.0; no_bad_load = past5.1 }
 
@@ -155,12 +156,16 @@ length_is file t = let h = ends file (length_fits_lem file t) in sym h.0 ∙ h.1
 -- ---- the walls
 
 -- a wall that is passed fits, and no later one is refused
-pub past_wall : (n : ℕ) (w : Wall) (ws : List Wall) → T (is_worked (first_bad_wall n (w ∷ ws))) → T (wall_fits w) × T (is_worked (first_bad_wall (suc n) ws))
-unfolding wall_answer first_bad_wall
-past_wall n w ws t = step (wall_fits w) (WallOutOfRange n (first_bad_field w)) (first_bad_wall (suc n) ws) refl t
+pub past_wall : (n : ℕ) (w : Wall) (ws : List Wall) → T (is_ok (first_bad_wall n (w ∷ ws))) → T (wall_fits w) × T (is_ok (first_bad_wall (suc n) ws))
+unfolding wall_fits wall_answer first_bad_wall
+past_wall n w ws t = let h = first_worked (wall_answer n w) (first_bad_wall (suc n) ws) t in (go (first_bad_field w) h.0, h.1)
+  where
+    go : (bad : Option ℕ) → T (is_ok (refused_at n bad)) → T (is_none bad)
+    go None t = tt
+    go (Some field) t = absurd t
 
 -- where no wall of a list is refused, each fits
-each_wall : (n : ℕ) (ws : List Wall) → T (is_worked (first_bad_wall n ws)) → (i : ℕ) → i < length ws → T (wall_fits (get_or ws i []))
+each_wall : (n : ℕ) (ws : List Wall) → T (is_ok (first_bad_wall n ws)) → (i : ℕ) → i < length ws → T (wall_fits (get_or ws i []))
 each_wall n [] t i h = absurd (omega arith)
 each_wall n (w ∷ ws) t zero h = (past_wall n w ws t).0
 each_wall n (w ∷ ws) t (suc i) h = each_wall (suc n) ws (past_wall n w ws t).1 i (omega arith)
@@ -172,18 +177,18 @@ walls_fit file t i h = rw (wall_at_lem file i) at (each_wall 1 (walls file) (pas
 -- ---- the loads
 
 -- an entry that is passed fits, is not one too many for its wall, and no later one is refused
-pub past_load : (there : List Wall) (before : List Entry) (n : ℕ) (e : Entry) (es : List Entry) → T (is_worked (first_bad_load there before n (e ∷ es)))
-    → T (entry_fits there e) × T (not (is_one_more before e)) × T (is_worked (first_bad_load there (before ++ e ∷ []) (suc n) es))
+pub past_load : (there : List Wall) (before : List Entry) (n : ℕ) (e : Entry) (es : List Entry) → T (is_ok (first_bad_load there before n (e ∷ es)))
+    → T (entry_fits there e) × T (not (is_one_more before e)) × T (is_ok (first_bad_load there (before ++ e ∷ []) (suc n) es))
 unfolding first_bad_load
 past_load there before n e es t =
     let rest = first_bad_load there (before ++ e ∷ []) (suc n) es in
     let more = refused_if (is_one_more before e) (NinthLoad n) in
-    let h = step (entry_fits there e) (LoadOutOfRange n) (more or_else rest) refl t in
+    let h = step (entry_fits there e) (LoadOutOfRange n) (more or_else rest) t in
     let k = first_worked more rest h.1 in
-    (h.0, not_refused (is_one_more before e) (NinthLoad n) refl k.0, k.1)
+    (h.0, not_refused (is_one_more before e) (NinthLoad n) k.0, k.1)
 
 -- where no load of a list is refused, each has a wall and fits it
-each_load : (there : List Wall) (before : List Entry) (n : ℕ) (es : List Entry) → T (is_worked (first_bad_load there before n es))
+each_load : (there : List Wall) (before : List Entry) (n : ℕ) (es : List Entry) → T (is_ok (first_bad_load there before n es))
     → (k : ℕ) → k < length es → T (entry_fits there (get_or es k []))
 each_load there before n [] t k h = absurd (omega arith)
 each_load there before n (e ∷ es) t zero h = (past_load there before n e es t).0
@@ -244,7 +249,7 @@ still_few n before e few room = rw (loads_join n before (e ∷ []), length-appen
     go false on = omega arith
 
 -- and to the end, where no load is refused
-pub few_from : (n : ℕ) (there : List Wall) (before : List Entry) (first : ℕ) (es : List Entry) → T (is_worked (first_bad_load there before first es))
+pub few_from : (n : ℕ) (there : List Wall) (before : List Entry) (first : ℕ) (es : List Entry) → T (is_ok (first_bad_load there before first es))
     → length (loads_on n before) ≤ most_loads_on_wall → length (loads_on n (before ++ es)) ≤ most_loads_on_wall
 few_from n there before first [] t few = rw append-nil few
 few_from n there before first (e ∷ es) t few =

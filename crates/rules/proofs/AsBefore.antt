@@ -1,5 +1,8 @@
 -- Document 02, "#102 Say which field": nothing accepted changes. What document 01 told of a file before that request is a function of what is told now.
-use mathlib.Core.Path.{◌≡◌, refl, sym, ap}
+use Rattle.rules.proofs.Replies.{no_number}
+use Rattle.rules.specs.declared.Refusal.{Refusal}
+use Rattle.std.specs.Prelude.{is_ok, Err, Option, None, Some, is_none}
+use mathlib.Core.Path.{◌∙◌, ◌≡◌, refl, sym, ap}
 use mathlib.Core.Bool.{Bool, true, false, not, ◌&&◌, cond}
 use mathlib.Core.List.{List, [], ◌∷◌, ◌++◌}
 use Prim.Native.Nat.{ℕ, suc, ◌+◌, ◌*◌, ◌/◌}
@@ -8,13 +11,12 @@ use lib.Dec.{ltb, eqb}
 use lib.ListN.{length}
 use borrow.Author.Tests.{eqb-true}
 use Rattle.whole.proofs.Lists.{of_either}
-use Rattle.rules.specs.declared.Answer.{Answer}
-use Rattle.rules.specs.declared.Answer.TheVariants.{TooShort, WrongEdition, CountOutOfRange, WrongOffset, WrongLength, WallOutOfRange, LoadOutOfRange, NinthLoad, BufferTooShort, NoSuchWall}
+use Rattle.rules.specs.declared.Refusal.TheVariants.{TooShort, WrongEdition, CountOutOfRange, WrongOffset, WrongLength, LoadOutOfRange, NinthLoad, BufferTooShort, NoSuchWall}
 use Rattle.rules.specs.JobFile.{File, Wall, Entry, header_bytes, this_edition, edition, wall_count, first_wall_offset, load_count, first_load_offset, whole_length, entry_bytes, entries_at, walls, entries, first_bad_field, wall_fits}
-use Rattle.rules.specs.Answered.{number, place, is_worked, refused_if, ◌or_else◌, counts_fit, offsets_fit, length_fits, wall_answer, first_bad_wall, is_there, entry_fits, is_one_more, first_bad_load, first_refusal, accepted}
+use Rattle.rules.specs.Answered.{number, place, refused_if, ◌or_else◌, counts_fit, offsets_fit, length_fits, wall_answer, first_bad_wall, is_there, entry_fits, is_one_more, first_bad_load, first_refusal, accepted, Answer, refused_at}
 use Rattle.rules.specs.SheetLine.{line_numbers, answer_to}
 use Rattle.rules.specs.Drawing.{answer_to_drawing}
-use Rattle.rules.proofs.Named.{first_bad}
+use Rattle.rules.proofs.Named.{first_bad, FirstBad}
 
 -- ---- what is told of an answer: its number and its place, and 0 and 0 where the job is worked
 
@@ -91,14 +93,14 @@ pub record Alike (then : Told) (answer : Answer) : Type 0 where
   pub is : then ≡ told_as_before (told answer)
 
 -- the same refusal, by the same test
-same : (test : Bool) (refusal : Answer) → Alike (told_if test (told_as_before (told refusal)).number (told_as_before (told refusal)).place) (refused_if test refusal)
+same : (test : Bool) (refusal : Refusal) → Alike (told_if test (told_as_before (told (Err refusal))).number (told_as_before (told (Err refusal))).place) (refused_if test refusal)
 same true refusal = record { is = refl }
 same false refusal = record { is = refl }
 
 -- the first of two
 first : (x y : Told) (a b : Answer) → Alike x a → Alike y b → Alike (x or_told y) (a or_else b)
 first x y a b one other =
-    record { is = rw (one.is, other.is, same_worked (number a)) (sym (of_either (λ (answer : Answer). told_as_before (told answer)) (is_worked a) b a)) }
+    record { is = rw (one.is, other.is, same_worked (number a), no_number a) (sym (of_either (λ (answer : Answer). told_as_before (told answer)) (is_ok a) b a)) }
 
 -- the offsets and the length apart
 apart : (a b c d : Bool) (rest : Told) → (told_if (not (a && b && c && d)) 4 0 or_told rest) ≡ (told_if (not (a && b)) 4 0 or_told told_if (not (c && d)) 4 0 or_told rest)
@@ -110,14 +112,15 @@ apart false b c d rest = refl
 
 -- a wall, whose field goes from the place
 wall_alike : (n : ℕ) (wall : Wall) → Alike (told_if (not (wall_fits wall)) 5 n) (wall_answer n wall)
-unfolding wall_answer
-wall_alike n wall = go (wall_fits wall) refl
+unfolding wall_fits wall_answer
+wall_alike n wall = go (first_bad_field wall) refl
   where
-    go : (fits : Bool) → wall_fits wall ≡ fits → Alike (told_if (not fits) 5 n) (refused_if (not fits) (WallOutOfRange n (first_bad_field wall)))
-    go true e = record { is = refl }
-    go false e =
-        let small = (first_bad wall (rw e tt)).to in
-        let k : n ≡ (n * 100 + first_bad_field wall) / 100 = omega arith in
+    go : (bad : Option ℕ) → first_bad_field wall ≡ bad → Alike (told_if (not (is_none bad)) 5 n) (refused_at n bad)
+    go None e = record { is = refl }
+    go (Some field) e =
+        let first : FirstBad wall field = rw e at (first_bad wall (rw e tt)) in
+        let small = first.to in
+        let k : n ≡ (n * 100 + field) / 100 = omega arith in
         record { is = ap (λ (place : ℕ). record { number = 5; place = place }) k }
 
 walls_alike : (n : ℕ) (ws : List Wall) → Alike (walls_told n ws) (first_bad_wall n ws)
@@ -154,4 +157,4 @@ drawing_as_before file n = first _ _ _ _ (as_before file) (same (not (is_there n
 
 -- "nothing accepted changes": a file is accepted where it was
 pub same_accepted : (file : File) → eqb (told_before file).number 0 ≡ accepted file
-same_accepted file = rw (as_before file).is (same_worked (number (first_refusal file)))
+same_accepted file = rw (as_before file).is (same_worked (number (first_refusal file)) ∙ no_number (first_refusal file))

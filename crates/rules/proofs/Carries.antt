@@ -1,6 +1,8 @@
 -- Document 01, "The bearing block": a block that is given is never negative, stays on the base, carries exactly the vertical total at exactly its
 -- moment, and no other straight-line block does. The cases of M6 leave nothing out and overlap nowhere. Where M6 isn't above 0, or isn't below 6Rl, no block
 -- would do.
+use Rattle.rules.proofs.Replies.{gives_worked, gives_refusal}
+use Rattle.std.specs.Prelude.{Ok, is_err}
 use mathlib.Core.Path.{◌≡◌, refl, sym, ap, ◌∙◌}
 use mathlib.Core.Logic.{◌↔◌, ◌⊎◌, inl, inr, ⊎_elim}
 use mathlib.Core.Bool.{Bool, true, false, not, ◌&&◌, ◌||◌, cond}
@@ -21,8 +23,8 @@ use Rattle.rules.specs.declared.Block.{Block}
 use Rattle.rules.specs.declared.Totals.{Totals}
 use Rattle.rules.specs.JobFile.{Wall, Load, base_length}
 use Rattle.rules.specs.Forces.{service, factored}
-use Rattle.rules.specs.Bearing.{◌over◌, over_one, plus, minus, times, Same, Proper, Triangle, HasKind, StraightLine, carried, six_moments_as, six_moments, SameBlock, is_none, is_full, is_from_toe, is_from_heel, kind_of, no_block, of_kind, block_of, service_scale, factored_scale, peak, greatest_peak, given, block_under, service_block, factored_block, is_given_kind, is_given, pressed_by}
-use Rattle.rules.specs.Beyond.{fits, worked_forces, forces_of, worked_bearing, bearing_of}
+use Rattle.rules.specs.Bearing.{◌over◌, over_one, plus, minus, times, Same, Proper, Triangle, HasKind, StraightLine, carried, six_moments_as, six_moments, SameBlock, is_none, is_full, is_from_toe, is_from_heel, kind_of, no_block, of_kind, block_of, service_scale, factored_scale, peak, greatest_peak, given, block_under, service_block, factored_block, is_given_kind, is_given}
+use Rattle.rules.specs.Beyond.{fits, worked_bearing, bearing_of, examined}
 use Rattle.rules.proofs.Accepted.{wall_within, base_length_lem}
 use Rattle.rules.proofs.Examined.{fit}
 use Rattle.rules.proofs.Sizes.{service_sized, factored_sized}
@@ -403,15 +405,11 @@ module _ (wall : Wall) (loads : List Load) (accepted : T (fits wall loads)) wher
 -- ---- what is answered of one wall with its loads
 
 -- where they fit, the forces and the blocks are those of the wall under its loads
-pub worked_blocks : (wall : Wall) (loads : List Load) → fits wall loads ≡ true → bearing_of wall loads ≡ worked_bearing wall loads
-unfolding bearing_of worked_bearing forces_of worked_forces service_block factored_block
-worked_blocks wall loads e = rw e
+pub worked_blocks : (wall : Wall) (loads : List Load) → fits wall loads ≡ true → bearing_of wall loads ≡ Ok (worked_bearing wall loads)
+unfolding bearing_of
+worked_blocks wall loads e = gives_worked (examined wall loads) (worked_bearing wall loads) (rw e tt)
 
 -- where they are refused, no block is given
-pub refused_blocks : (wall : Wall) (loads : List Load) → fits wall loads ≡ false
-    → ((bearing_of wall loads).service ≡ pressed_by service_scale no_block) × ((bearing_of wall loads).factored ≡ pressed_by factored_scale no_block)
-unfolding bearing_of forces_of block_under block_of kind_of is_none of_kind given
-refused_blocks wall loads e = rw e (none service_scale, none factored_scale)
-  where
-    none : (scale : ℕ) → pressed_by scale (given scale no_block) ≡ pressed_by scale no_block
-    none scale = case (leb (peak scale no_block) greatest_peak) _ _ (λ b. pressed_by scale b ≡ pressed_by scale no_block) (λ low. refl) (λ high. refl)
+pub refused_blocks : (wall : Wall) (loads : List Load) → fits wall loads ≡ false → is_err (bearing_of wall loads) ≡ true
+unfolding bearing_of
+refused_blocks wall loads e = gives_refusal (examined wall loads) (worked_bearing wall loads) e

@@ -1,20 +1,21 @@
 -- Document 01, "The bearing block": what is answered where a drawing is asked for, that each figure of a drawing is its own exact fraction, rounded once, and that
 -- none is a NaN.
+use Rattle.rules.specs.declared.Refusal.{Refusal}
+use Rattle.std.specs.Prelude.{is_ok, Ok, Err, IfOk, IsOkAnd}
 use mathlib.Core.Path.{◌≡◌, refl}
 use mathlib.Core.Bool.{true, false, not}
 use mathlib.Core.List.{List}
 use Prim.Native.Nat.{ℕ, zero, suc, ◌-◌, ◌<◌}
 use native.Mathlib.Omega.{arith}
 use lib.Dec.{T, lit<}
-use lib.Ieee.{Float, of_int}
+use lib.Ieee.{Float}
 use lib.Ieee.Bits.{is_true}
 use lib.IntN.{ℤ, pos, nat_abs, ◌-ℤ◌, ◌*ℤ◌}
 use lib.Signed.{◌<ℤ◌, lt_z_yes}
 use borrow.Author.Tests.{le-leb}
 use Rattle.whole.proofs.Integer.{pos-<ℤ, Above, above, is_above}
-use Rattle.whole.proofs.Lists.{All, case}
-use Rattle.rules.specs.declared.Answer.{Answer}
-use Rattle.rules.specs.declared.Answer.TheVariants.{Worked, NoSuchWall}
+use Rattle.whole.proofs.Lists.{All}
+use Rattle.rules.specs.declared.Refusal.TheVariants.{NoSuchWall}
 use Rattle.rules.specs.declared.Block.{Block}
 use Rattle.rules.specs.declared.Drawn.{Drawn}
 use Rattle.rules.specs.declared.Fraction.{Fraction}
@@ -24,14 +25,14 @@ use Rattle.rules.specs.declared.Shape.{Shape}
 use Rattle.rules.specs.declared.Shape.TheVariants.{Whole, ToeTriangle, HeelTriangle, Nothing}
 use Rattle.rules.specs.declared.Totals.{Totals}
 use Rattle.rules.specs.JobFile.{File, Wall, Load, wall_count, wall_at, walls, entries, loads_on, base_length}
-use Rattle.rules.specs.Answered.{is_worked, refused_if, is_there, numbered, first_refusal, accepted}
+use Rattle.rules.specs.Answered.{refused_if, is_there, numbered, first_refusal, accepted, Answer, ◌gives◌}
 use Rattle.rules.specs.Forces.{service}
 use Rattle.rules.specs.Bearing.{of_kind, service_scale, reported, peak, block_under, service_block, is_given}
-use Rattle.rules.specs.Drawing.{in_thousands, drawing_of, shape_by, shape_of, answer_to_drawing, drawn, undrawn, drawing_for}
+use Rattle.rules.specs.Drawing.{in_thousands, drawing_of, shape_by, shape_of, answer_to_drawing, drawn, drawing_for}
 use Rattle.rules.specs.Beyond.{fits, shape_figures, figures}
 use Rattle.rules.proofs.AcceptedFile.{walls_length, wall_at_lem, first_worked, there_is, passes}
 use Rattle.rules.proofs.Carries.{given_has, service_above, service_bears}
-use Rattle.rules.proofs.Divisions.{OneDivision, one_division, IsNumber, rounded, division_number}
+use Rattle.rules.proofs.Divisions.{OneDivision, one_division, IsNumber, division_number}
 use Rattle.rules.proofs.Doubles.{Shaped, divided, shaped}
 use Rattle.rules.proofs.Examined.{fit, wall_of_file}
 use Rattle.rules.proofs.Sizes.{Small}
@@ -40,12 +41,12 @@ use Rattle.rules.proofs.Sizes.{Small}
 
 module _ (file : File) where
   -- a refused file has nothing to draw
-  pub refused_drawing : (n : ℕ) → accepted file ≡ false → drawing_for file n ≡ undrawn (first_refusal file)
+  pub refused_drawing : (n : ℕ) {refusal : Refusal} → first_refusal file ≡ Err refusal → drawing_for file n ≡ Err refusal
   unfolding drawing_for answer_to_drawing
-  refused_drawing n e = rw (e, e)
+  refused_drawing n e = rw e
 
   -- nor has an accepted one of a wall that isn't there
-  pub no_such_wall : (n : ℕ) → accepted file ≡ true → is_there n (walls file) ≡ false → drawing_for file n ≡ undrawn (NoSuchWall n)
+  pub no_such_wall : (n : ℕ) → accepted file ≡ true → is_there n (walls file) ≡ false → drawing_for file n ≡ Err (NoSuchWall n)
   unfolding drawing_for answer_to_drawing
   no_such_wall n e none = rw (e, none)
 
@@ -54,16 +55,16 @@ module _ (file : File) where
     abbrev its : List Load
     its = loads_on (suc i) (entries file)
 
-    answered : answer_to_drawing file (suc i) ≡ Worked
+    answered : answer_to_drawing file (suc i) ≡ Ok tt
     unfolding answer_to_drawing
     answered = rw (is_true (accepted file) t, walls_length, le-leb 1 (suc i) (omega arith), le-leb (suc i) (wall_count file) (omega arith))
 
     pub drawn_is : drawn file (suc i)
-        ≡ record { answer = Worked; drawing = drawing_of (service (wall_at file i) its); shape = shape_of (service_block (wall_at file i) its) }
+        ≡ record { drawing = drawing_of (service (wall_at file i) its); shape = shape_of (service_block (wall_at file i) its) }
     unfolding drawn
     drawn_is = let index : suc i - 1 ≡ i = omega arith in rw (index, wall_at_lem file i h)
 
-    pub wall_drawn : drawing_for file (suc i) ≡ drawn file (suc i)
+    pub wall_drawn : drawing_for file (suc i) ≡ Ok (drawn file (suc i))
     unfolding drawing_for
     wall_drawn = rw answered
 
@@ -133,7 +134,7 @@ drawn_figured file n t there =
 
 -- each figure of a drawing, of any wall that an accepted file has, is its own exact fraction, rounded once
 pub each_figure : (file : File) (n : ℕ) → T (accepted file) → T (is_there n (walls file))
-    → Figured (numbered n (walls file)) (loads_on n (entries file)) (drawing_for file n)
+    → IsOkAnd (drawing_for file n) (Figured (numbered n (walls file)) (loads_on n (entries file)))
 unfolding drawing_for answer_to_drawing
 each_figure file n t there = rw (is_true (accepted file) t, is_true (is_there n (walls file)) there) (drawn_figured file n t there)
 
@@ -151,21 +152,18 @@ unfolding figures
 drawn_numbers wall loads d f =
     (division_number f.R, (division_number f.H, (division_number f.distance, shape_numbers (service wall loads) (pos (base_length wall)) (service_block wall loads) d.shape f.shape)))
 
--- a refusal's figures
-undrawn_numbers : (refusal : Answer) → All IsNumber (figures (undrawn refusal))
-unfolding figures undrawn shape_figures of_int
-undrawn_numbers refusal = let none = rounded false 0 1 in (none, (none, (none, tt)))
-
 -- only a wall that is there is drawn
-drawable : (file : File) (n : ℕ) → T (is_worked (answer_to_drawing file n)) → T (accepted file) × T (is_there n (walls file))
+drawable : (file : File) (n : ℕ) → T (is_ok (answer_to_drawing file n)) → T (accepted file) × T (is_there n (walls file))
 unfolding answer_to_drawing
 drawable file n t =
     let h = first_worked (first_refusal file) (refused_if (not (is_there n (walls file))) (NoSuchWall n)) t in
-    (h.0, passes (is_there n (walls file)) (NoSuchWall n) refl h.1)
+    (h.0, passes (is_there n (walls file)) (NoSuchWall n) h.1)
 
 -- whatever is asked for, no figure that is answered is a NaN
-pub never_nan : (file : File) (n : ℕ) → All IsNumber (figures (drawing_for file n))
+pub never_nan : (file : File) (n : ℕ) → IfOk (drawing_for file n) (λ d. All IsNumber (figures d))
 unfolding drawing_for
-never_nan file n =
-    case (is_worked (answer_to_drawing file n)) _ _ (λ d. All IsNumber (figures d))
-    (λ t. let h = drawable file n t in drawn_numbers _ _ _ (drawn_figured file n h.0 h.1)) (λ t. undrawn_numbers _)
+never_nan file n = go (answer_to_drawing file n) (λ t. let h = drawable file n t in drawn_numbers _ _ _ (drawn_figured file n h.0 h.1))
+  where
+    go : (answer : Answer) → (T (is_ok answer) → All IsNumber (figures (drawn file n))) → IfOk (answer gives drawn file n) (λ d. All IsNumber (figures d))
+    go (Ok well) numbers = numbers tt
+    go (Err refusal) numbers = tt

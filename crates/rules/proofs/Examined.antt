@@ -1,18 +1,19 @@
 -- What it tells of one wall with its loads that they are worked and not refused: the wall fits, each load fits it, and there are no more than a wall may have.
+use Rattle.rules.proofs.Accepted.{no_bad_field}
+use Rattle.std.specs.Prelude.{is_ok, Option, Some, None, Ok, Err}
 use mathlib.Core.Path.{◌≡◌, refl, ap}
 use mathlib.Core.Bool.{Bool, true, false, not, cond}
 use mathlib.Core.List.{List, [], ◌∷◌, ◌++◌, map}
 use Prim.Native.Nat.{ℕ, suc, ◌+◌, ◌≤◌, ◌<◌}
 use native.Mathlib.Omega.{arith}
-use lib.Dec.{T, ltb, leb-zero}
+use lib.Dec.{T, leb-zero}
 use lib.ListN.{length, replicate, length-append, length-replicate, get_or-replicate}
 use lib.Ieee.Bits.{is_true}
-use borrow.Author.Tests.{le-ltb, lt-ltb, lt-leb, eq-eqb}
+use borrow.Author.Tests.{le-ltb, lt-leb, eq-eqb}
 use Rattle.whole.proofs.Lists.{All, all_joined, all_apart, all_of}
-use Rattle.rules.specs.declared.Answer.{Answer}
-use Rattle.rules.specs.declared.Answer.TheVariants.{Worked, WallOutOfRange, LoadOutOfRange}
+use Rattle.rules.specs.declared.Refusal.TheVariants.{LoadOutOfRange}
 use Rattle.rules.specs.JobFile.{File, Wall, Load, Entry, header_bytes, this_edition, edition, wall_count, most_loads_on_wall, wall_at, walls, entries, loads_on, first_bad_field, wall_fits, direction, position, dead_load, live_load, load_fits}
-use Rattle.rules.specs.Answered.{is_worked, refused_if, ◌or_else◌, counts_fit, offsets_fit, length_fits, wall_answer, first_bad_wall, entry_fits, is_one_more, first_bad_load, first_refusal, accepted}
+use Rattle.rules.specs.Answered.{refused_if, ◌or_else◌, counts_fit, offsets_fit, length_fits, wall_answer, first_bad_wall, entry_fits, is_one_more, first_bad_load, first_refusal, accepted, Answer, refused_at}
 use Rattle.rules.specs.Beyond.{first_unfit, alone, examined, fits}
 use Rattle.rules.proofs.AcceptedFile.{loads_join, first_worked, walls_fit, past_wall, past_load, loads_fit, few_from, few_loads}
 
@@ -36,8 +37,9 @@ unfolding loads_on
 loads_alone [] = refl
 loads_alone (load ∷ rest) = ap (λ (loads : List Load). load ∷ loads) (loads_alone rest)
 
-abbrev pub refused_load : ℕ → Answer
-refused_load number = refused_if (ltb 0 number) (LoadOutOfRange number)
+abbrev pub refused_load : Option ℕ → Answer
+refused_load None = Ok tt
+refused_load (Some number) = Err (LoadOutOfRange number)
 
 module _ (wall : Wall) where
   -- as long as the wall has no more loads than it may, a load is refused only where it doesn't fit
@@ -51,25 +53,24 @@ module _ (wall : Wall) where
       rw (lt-leb most_loads_on_wall (length (loads_on 1 before)), never_ninth (before ++ alone load ∷ []) (suc n) rest)
       (go (load_fits wall load) (first_unfit wall (suc (suc n)) rest))
     where
-      go : (fits : Bool) (next : ℕ) → (refused_if (not fits) (LoadOutOfRange (suc n)) or_else refused_load next) ≡ refused_load (cond fits next (suc n))
+      go : (fits : Bool) (next : Option ℕ) → (refused_if (not fits) (LoadOutOfRange (suc n)) or_else refused_load next) ≡ refused_load (cond fits next (Some (suc n)))
       go true next = refl
-      go false next = let some : 0 < suc n = omega arith in rw (lt-ltb 0 (suc n) some)
+      go false next = refl
 
   -- a wall with no more loads than it may have is examined by itself, and then load after load
   pub examined_is : (loads : List Load) → length loads ≤ most_loads_on_wall
       → examined wall loads ≡ (wall_answer 1 wall or_else refused_load (first_unfit wall 1 loads))
   unfolding examined wall_answer first_bad_wall loads_on
-  examined_is loads few = rw (never_ninth [] 0 loads (omega arith)) (go (wall_fits wall) (refused_load (first_unfit wall 1 loads)))
+  examined_is loads few = rw (never_ninth [] 0 loads (omega arith)) (go (first_bad_field wall) (refused_load (first_unfit wall 1 loads)))
     where
-      go : (fits : Bool) (rest : Answer)
-          → ((refused_if (not fits) (WallOutOfRange 1 (first_bad_field wall)) or_else Worked) or_else rest) ≡ (refused_if (not fits) (WallOutOfRange 1 (first_bad_field wall)) or_else rest)
-      go true rest = refl
-      go false rest = refl
+      go : (bad : Option ℕ) (rest : Answer) → ((refused_at 1 bad or_else Ok tt) or_else rest) ≡ (refused_at 1 bad or_else rest)
+      go None rest = refl
+      go (Some field) rest = refl
 
   -- ---- what is worked fits, and what fits is worked
 
   -- where no load is refused, each fits
-  all_passed : (before : List Entry) (n : ℕ) (loads : List Load) → T (is_worked (first_bad_load (wall ∷ []) before n (map alone loads))) → AllFit wall loads
+  all_passed : (before : List Entry) (n : ℕ) (loads : List Load) → T (is_ok (first_bad_load (wall ∷ []) before n (map alone loads))) → AllFit wall loads
   unfolding entry_fits
   all_passed before n [] t = tt
   all_passed before n (load ∷ rest) t =
@@ -77,7 +78,7 @@ module _ (wall : Wall) where
       (past.0, all_passed (before ++ alone load ∷ []) (suc n) rest past.2)
 
   -- and where each fits, none is refused
-  none_unfit : (n : ℕ) (loads : List Load) → AllFit wall loads → first_unfit wall n loads ≡ 0
+  none_unfit : (n : ℕ) (loads : List Load) → AllFit wall loads → first_unfit wall n loads ≡ None
   unfolding first_unfit
   none_unfit n [] all = refl
   none_unfit n (load ∷ rest) all = rw (is_true (load_fits wall load) all.0) (none_unfit (suc n) rest all.1)
@@ -94,9 +95,9 @@ module _ (wall : Wall) where
       }
 
   -- and where this is so, they are worked
-  pub worked : (loads : List Load) → Fit wall loads → examined wall loads ≡ Worked
+  pub worked : (loads : List Load) → Fit wall loads → examined wall loads ≡ Ok tt
   unfolding wall_answer
-  worked loads f = rw (examined_is loads f.few, is_true (wall_fits wall) f.wall_fits, none_unfit 1 loads f.loads_fit)
+  worked loads f = rw (examined_is loads f.few, no_bad_field wall f.wall_fits, none_unfit 1 loads f.loads_fit)
 
   -- so that the test of them holds
   pub fits_of : (loads : List Load) → Fit wall loads → T (fits wall loads)

@@ -1,4 +1,5 @@
 -- Document 01, "How strictly it is promised", its four idle versions: none of them meets the promise. One job of two unlike walls tells on each.
+use Rattle.std.specs.Prelude.{Ok}
 use Prim.Native.Nat.{ℕ, zero, suc, ◌+◌, ◌*◌, ◌≤◌, ◌<◌}
 use native.Mathlib.Omega.{arith}
 use mathlib.Core.Path.{◌≡◌, refl, ap, ◌∙◌}
@@ -12,10 +13,8 @@ use mir.Val.{SFits}
 use Rattle.whole.proofs.Lists.{All}
 use Rattle.whole.specs.Rounding.{rounded_nearest}
 use Rattle.whole.specs.Sum.{sum_of}
-use Rattle.rules.specs.declared.Answer.{Answer}
-use Rattle.rules.specs.declared.Answer.TheVariants.{Worked}
 use Rattle.rules.specs.JobFile.{File, Wall, wall_count, u16_at, u32_at, u32s_at, entries_at, wall_at, records_from, walls, entries, loads_on, base_length, crest_height, wall_height, among, within, first_outside, first_bad_field, wall_fits}
-use Rattle.rules.specs.Answered.{accepted, counts_fit, offsets_fit, length_fits, wall_answer, first_bad_wall, first_bad_load, first_refusal}
+use Rattle.rules.specs.Answered.{accepted, counts_fit, offsets_fit, length_fits, wall_answer, first_bad_wall, first_bad_load, first_refusal, Answer}
 use Rattle.rules.specs.Forces.{saturated_height, stem_weight, base_weight, downstand_weight, saturated_weight, moist_weight, surcharge_weight, weight_rows, push_rows, load_table, table, column_sum, totals, service}
 use Rattle.rules.specs.SheetLine.{line_numbers, worked_wall, numbers_by, line, lines_from, sheet, joined, answer_to, buffer_after, Calculates, digit, digits, decimal, signed_decimal, hex_digits, line_rest, line_text, printed}
 use Rattle.rules.specs.Beyond.{sheet_room, onto, Prints}
@@ -58,7 +57,7 @@ are_bytes = every (λ n. ltb n 256)
 
 -- what the rules make of it, and of case A
 record WorkedOut : Type 0 where
-  answered : answer_to two_walls 38 ≡ Worked
+  answered : answer_to two_walls 38 ≡ Ok tt
   passes : T (accepted two_walls)
   bytes : T (are_bytes two_walls)
   two : wall_count two_walls ≡ 2
@@ -101,7 +100,7 @@ met = (record { answers = λ file before. answer_to file (length before); leaves
 abbrev pub NoVersion : (File → List ℤ → List ℤ → Type 0) → Type 0
 NoVersion Has =
     (v : Version) → Meets v
-    → ((file : File) (before : List ℤ) → Given file before → v.answers file before ≡ Worked → Has file before (v.leaves file before)) → ⊥
+    → ((file : File) (before : List ℤ) → Given file before → v.answers file before ≡ Ok tt → Has file before (v.leaves file before)) → ⊥
 
 all_bytes : (list : List ℕ) → T (are_bytes list) → All IsByte list
 all_bytes [] t = tt
@@ -122,7 +121,7 @@ told Has has_not v meets each =
 
 -- it refuses everything
 pub refuses_everything : (v : Version) → Meets v
-    → ((file : File) (before : List ℤ) → Given file before → v.answers file before ≡ Worked → ⊥) → ⊥
+    → ((file : File) (before : List ℤ) → Given file before → v.answers file before ≡ Ok tt → ⊥) → ⊥
 refuses_everything = told (λ file before after. ⊥) (λ never. never)
 
 -- it prints the text of case A for every job that is accepted: a version of the printing leaves the same in a buffer for each

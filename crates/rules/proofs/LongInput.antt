@@ -1,4 +1,6 @@
 -- Inputs longer than any job. A program that stops reading after 65536 bytes, or later, prints and draws what it would if it read to the end.
+use Rattle.rules.proofs.Replies.{refused_alike}
+use Rattle.std.specs.Prelude.{is_ok, Err}
 use Prim.Native.Nat.{ℕ, ◌+◌, ◌≤◌, ◌<◌}
 use native.Mathlib.Omega.{arith}
 use mathlib.Core.Path.{◌≡◌, refl, ap}
@@ -9,12 +11,11 @@ use lib.ListN.{length, take}
 use lib.Seq.{length-take-le, take_all, get_or-take}
 use borrow.Author.Tests.{leb-true, leb-false, le-ltb, eq-eqb}
 use Rattle.whole.proofs.Lists.{All, all_at}
-use Rattle.rules.specs.declared.Answer.{Answer}
-use Rattle.rules.specs.declared.Answer.TheVariants.{WrongEdition, CountOutOfRange, WrongOffset, WrongLength}
+use Rattle.rules.specs.declared.Refusal.TheVariants.{WrongEdition, CountOutOfRange, WrongOffset, WrongLength}
 use Rattle.rules.specs.JobFile.{File, u16_at, header_bytes, this_edition, edition, whole_length, entries_at}
-use Rattle.rules.specs.Answered.{is_worked, refused_if, ◌or_else◌, counts_fit, offsets_fit, length_fits, first_refusal, accepted}
+use Rattle.rules.specs.Answered.{refused_if, ◌or_else◌, counts_fit, offsets_fit, length_fits, first_refusal, accepted, Answer}
 use Rattle.rules.specs.SheetLine.{printed}
-use Rattle.rules.specs.Drawing.{answer_to_drawing, drawing_for}
+use Rattle.rules.specs.Drawing.{answer_to_drawing, drawing_for, drawn}
 use Rattle.rules.specs.WrittenFile.{file_room}
 use Rattle.rules.proofs.AcceptedFile.{length_fits_lem, counts_fit_lem, walls_counted, loads_counted, ends}
 
@@ -23,7 +24,7 @@ use Rattle.rules.proofs.AcceptedFile.{length_fits_lem, counts_fit_lem, walls_cou
 -- what they are answered, by whether the edition is right, whether the counts are, and whether the offsets are
 abbrev by_header : Bool → Bool → Bool → Answer
 by_header one counted placed =
-    refused_if (not one) WrongEdition or_else refused_if (not counted) CountOutOfRange or_else refused_if (not placed) WrongOffset or_else WrongLength
+    refused_if (not one) WrongEdition or_else refused_if (not counted) CountOutOfRange or_else refused_if (not placed) WrongOffset or_else Err WrongLength
 
 refused_by_header : (file : File) → header_bytes ≤ length file → (T (length_fits file) → ⊥)
     → first_refusal file ≡ by_header (eqb (edition file) this_edition) (counts_fit file) (offsets_fit file)
@@ -31,7 +32,7 @@ unfolding first_refusal
 refused_by_header file long unfit = rw (le-ltb (length file) header_bytes, is_false (length_fits file) (not_T (length_fits file) unfit))
 
 -- and none of them is worked
-no_work : (one counted placed : Bool) → is_worked (by_header one counted placed) ≡ false
+no_work : (one counted placed : Bool) → is_ok (by_header one counted placed) ≡ false
 no_work true true true = refl
 no_work true true false = refl
 no_work true false placed = refl
@@ -50,7 +51,7 @@ not_accepted file longer t = too_long file longer (counts_fit_lem file t) (lengt
 
 -- and where its edition, its counts and its offsets are right, it is refused for its length
 pub refused_for_length : (file : File) → file_room < length file → edition file ≡ this_edition → T (counts_fit file) → T (offsets_fit file)
-    → first_refusal file ≡ WrongLength
+    → first_refusal file ≡ Err WrongLength
 refused_for_length file longer one counts offsets =
     rw (
       refused_by_header file (omega arith) (too_long file longer counts),
@@ -93,7 +94,7 @@ module _ (read : ℕ) (enough : least_read ≤ read) where
 
   -- an input that isn't read to its end is refused, and so is what is read of it, for the same reason
   module _ (file : File) (bytes : All IsByte file) (long : read ≤ length file) where
-    pub long_refused : is_worked (first_refusal file) ≡ false
+    pub long_refused : is_ok (first_refusal file) ≡ false
     long_refused = rw (long_by_header file (omega arith) (u16_small file bytes 10)) (no_work (eqb (edition file) this_edition) (counts_fit file) (offsets_fit file))
 
     pub long_alike : first_refusal (take read file) ≡ first_refusal file
@@ -112,7 +113,7 @@ module _ (read : ℕ) (enough : least_read ≤ read) where
 
   -- what files that are refused alike have alike, an input and what is read of it have alike
   pub read_alike : {A : Type 0} (f : File → A)
-      → ((one other : File) → first_refusal one ≡ first_refusal other → is_worked (first_refusal other) ≡ false → f one ≡ f other)
+      → ((one other : File) → first_refusal one ≡ first_refusal other → is_ok (first_refusal other) ≡ false → f one ≡ f other)
       → (file : File) → All IsByte file → f (take read file) ≡ f file
   read_alike f alike file bytes = go (leb read (length file)) refl
     where
@@ -128,4 +129,4 @@ module _ (read : ℕ) (enough : least_read ≤ read) where
   -- and the same is drawn
   pub drawn_read : (file : File) → All IsByte file → (n : ℕ) → drawing_for (take read file) n ≡ drawing_for file n
   unfolding drawing_for answer_to_drawing
-  drawn_read file bytes n = read_alike (λ file. drawing_for file n) (λ one other same unworked. rw (same, unworked, unworked)) file bytes
+  drawn_read file bytes n = read_alike (λ file. drawing_for file n) (λ one other same unworked. rw (same, unworked) (refused_alike (first_refusal other) (drawn one n) (drawn other n) unworked)) file bytes

@@ -1,5 +1,7 @@
 -- Document 02, "#102 Say which field", as theorems: which wall and which field refusal 5 names wherever walls are examined, that both are read off its place, and the order of 4, 10 and 5.
-use mathlib.Core.Path.{◌≡◌, refl, sym, ◌∙◌}
+use Rattle.rules.specs.declared.Refusal.{Refusal}
+use Rattle.std.specs.Prelude.{is_ok, Ok, Err, Option, None, Some, IsSomeAnd}
+use mathlib.Core.Path.{◌≡◌, refl, sym, ◌∙◌, ap}
 use mathlib.Core.Bool.{Bool, true, false, not, ◌||◌, and-eq-true_iff}
 use mathlib.Core.List.{List, [], ◌∷◌, ◌++◌, map}
 use mathlib.Core.Logic.{◌↔◌}
@@ -10,12 +12,11 @@ use lib.Ieee.Bits.{is_true, is_false}
 use lib.ListN.{length, get_or}
 use borrow.Author.Tests.{le-ltb, eq-eqb, eqb-true}
 use Rattle.whole.proofs.Lists.{FirstFailed, fails_at_once, fails_behind, case}
-use Rattle.rules.specs.declared.Answer.{Answer}
-use Rattle.rules.specs.declared.Answer.TheVariants.{Worked, TooShort, WrongEdition, CountOutOfRange, WrongOffset, WrongLength, LoadOutOfRange, NinthLoad, BufferTooShort, OutputTooShort, NoSuchWall}
+use Rattle.rules.specs.declared.Refusal.TheVariants.{TooShort, WrongEdition, CountOutOfRange, WrongOffset, WrongLength, LoadOutOfRange, NinthLoad, BufferTooShort, OutputTooShort, NoSuchWall}
 use Rattle.rules.specs.declared.Range.{Range}
 use Rattle.rules.specs.declared.Range.TheVariants.{ABar}
 use Rattle.rules.specs.JobFile.{File, Wall, Load, Entry, wall_fields, entry_fields, header_bytes, this_edition, edition, wall_count, first_wall_offset, first_load_offset, whole_length, load_count, entry_bytes, entries_at, walls, entries, field, within, ranges, first_outside, first_bad_field, wall_fits}
-use Rattle.rules.specs.Answered.{number, place, is_worked, refused_if, ◌or_else◌, counts_fit, offsets_fit, length_fits, wall_answer, first_bad_wall, is_there, numbered, entry_fits, is_one_more, first_bad_load, first_refusal}
+use Rattle.rules.specs.Answered.{number, place, refused_if, ◌or_else◌, counts_fit, offsets_fit, length_fits, wall_answer, first_bad_wall, is_there, numbered, entry_fits, is_one_more, first_bad_load, first_refusal, Answer}
 use Rattle.rules.specs.SheetLine.{line_numbers, answer_to}
 use Rattle.rules.specs.Drawing.{answer_to_drawing}
 use Rattle.rules.specs.Beyond.{alone, examined}
@@ -39,10 +40,10 @@ field_test wall first rs j = within wall (get_or rs j ABar) (field wall (first +
 -- the first field that is outside its range stands so far behind the first of them
 record Outside (wall : Wall) (first : ℕ) (rs : List Range) : Type 0 where
   at : ℕ
-  is : first_outside wall first rs ≡ first + at
+  is : first_outside wall first rs ≡ Some (first + at)
   bad : FirstFailed (length rs) (field_test wall first rs) at
 
-outside : (wall : Wall) (first : ℕ) (rs : List Range) → (first_outside wall first rs ≡ 0 → ⊥) → Outside wall first rs
+outside : (wall : Wall) (first : ℕ) (rs : List Range) → (first_outside wall first rs ≡ None → ⊥) → Outside wall first rs
 unfolding first_outside
 outside wall first [] some = absurd (some refl)
 outside wall first (r ∷ rs) some = go (within wall r (field wall first)) refl (outside wall (suc first) rs)
@@ -53,19 +54,19 @@ outside wall first (r ∷ rs) some = go (within wall r (field wall first)) refl 
     along : (j : ℕ) → first + suc j ≡ suc first + j
     along j = omega arith
 
-    go : (fits : Bool) → within wall r (field wall first) ≡ fits → ((first_outside wall (suc first) rs ≡ 0 → ⊥) → Outside wall (suc first) rs)
+    go : (fits : Bool) → within wall r (field wall first) ≡ fits → ((first_outside wall (suc first) rs ≡ None → ⊥) → Outside wall (suc first) rs)
         → Outside wall first (r ∷ rs)
     go true e behind =
         let next = behind (λ none. some (rw e none)) in
         record {
           at = suc next.at;
-          is = rw e (next.is ∙ sym (along next.at));
+          is = rw e (next.is ∙ ap Some (sym (along next.at)));
           bad = fails_behind (field_test wall first (r ∷ rs)) (rw (here, e) tt) (simp along next.bad);
         }
-    go false e behind = record { at = 0; is = rw e (sym here); bad = fails_at_once (field_test wall first (r ∷ rs)) (rw (here, e)) }
+    go false e behind = record { at = 0; is = rw e (ap Some (sym here)); bad = fails_at_once (field_test wall first (r ∷ rs)) (rw (here, e)) }
 
 -- of a wall that doesn't fit it is the field that the definition gives
-pub first_bad : (wall : Wall) → T (not (wall_fits wall)) → FirstBad wall (first_bad_field wall)
+pub first_bad : (wall : Wall) → T (not (wall_fits wall)) → IsSomeAnd (first_bad_field wall) (FirstBad wall)
 unfolding wall_fits first_bad_field
 first_bad wall unfit = let f = outside wall 1 ranges (λ none. rw none at unfit) in rw f.is (go f.bad)
   where
@@ -99,12 +100,12 @@ module _ (there : List Wall) where
   pub silent : (answer : Answer) → T (not (eqb (number answer) 5)) → Says there answer
   silent answer other = record { named = λ e. absurd (rw e at other) }
 
-  silent_if : (test : Bool) (refusal : Answer) → T (not (eqb (number refusal) 5)) → Says there (refused_if test refusal)
-  silent_if test refusal other = case test refusal Worked (Says there) (λ t. silent refusal other) (λ t. silent Worked tt)
+  silent_if : (test : Bool) (refusal : Refusal) → T (not (eqb (number (Err refusal)) 5)) → Says there (refused_if test refusal)
+  silent_if test refusal other = case test (Err refusal) (Ok tt) (Says there) (λ t. silent (Err refusal) other) (λ t. silent (Ok tt) tt)
 
   -- and the first of two says what it says
   either : (a b : Answer) → Says there a → Says there b → Says there (a or_else b)
-  either a b first second = case (is_worked a) b a (Says there) (λ t. second) (λ t. first)
+  either a b first second = case (is_ok a) b a (Says there) (λ t. second) (λ t. first)
 
 -- ---- walls in order, and loads behind them
 
@@ -119,20 +120,20 @@ record NamedFrom (n : ℕ) (ws : List Wall) (wall field : ℕ) : Type 0 where
   its : FirstBad (get_or ws at []) field
 
 named : (n : ℕ) (ws : List Wall) → let answer = first_bad_wall n ws in number answer ≡ 5 → NamedFrom n ws (place answer / 100) (place answer % 100)
-unfolding first_bad_wall wall_answer
+unfolding wall_fits first_bad_wall wall_answer
 named n [] e = absurd (omega arith)
-named n (w ∷ ws) e = go (wall_fits w) refl (named (suc n) ws)
+named n (w ∷ ws) e = go (first_bad_field w) refl (named (suc n) ws)
   where
-    go : (fits : Bool) → wall_fits w ≡ fits
+    go : (bad : Option ℕ) → first_bad_field w ≡ bad
         → (let answer = first_bad_wall (suc n) ws in number answer ≡ 5 → NamedFrom (suc n) ws (place answer / 100) (place answer % 100))
         → let answer = first_bad_wall n (w ∷ ws) in NamedFrom n (w ∷ ws) (place answer / 100) (place answer % 100)
-    go true f behind =
+    go None f behind =
         let next = behind (rw f at e) in
         rw f (record { at = suc next.at; is = omega (arith, next.is); bad = fails_behind (wall_test (w ∷ ws)) (rw f tt) next.bad; its = next.its })
-    go false f behind =
-        let first = first_bad w (rw f tt) in
-        let rest : (n * 100 + first_bad_field w) % 100 ≡ first_bad_field w = omega (arith, first.to) in
-        rw f (record { at = 0; is = omega (arith, first.to); bad = fails_at_once (wall_test (w ∷ ws)) f; its = rw rest first })
+    go (Some field) f behind =
+        let first : FirstBad w field = rw f at (first_bad w (rw f tt)) in
+        let rest : (n * 100 + field) % 100 ≡ field = omega (arith, first.to) in
+        rw f (record { at = 0; is = omega (arith, first.to); bad = fails_at_once (wall_test (w ∷ ws)) (rw f); its = rw rest first })
 
 -- numbered from 1, they have the numbers of a file
 from_1 : {there : List Wall} {wall field : ℕ} → NamedFrom 1 there wall field → Names there wall field
@@ -150,7 +151,7 @@ walls_say there = record { named = λ e. from_1 (named 1 there e) }
 
 loads_silent : (there ws : List Wall) (passed : List Entry) (n : ℕ) (es : List Entry) → Says there (first_bad_load ws passed n es)
 unfolding first_bad_load
-loads_silent there ws passed n [] = silent there Worked tt
+loads_silent there ws passed n [] = silent there (Ok tt) tt
 loads_silent there ws passed n (e ∷ es) =
     either there _ _
     (silent_if there (not (entry_fits ws e)) (LoadOutOfRange n) tt)
@@ -230,14 +231,14 @@ module _ (file : File) (long : header_bytes ≤ length file) (one : edition file
   unfolding first_refusal
   past_counts = rw (le-ltb (length file) header_bytes, eq-eqb (edition file) this_edition, is_true (counts_fit file))
 
-  pub offset_refused : (OffsetsRight file → ⊥) → first_refusal file ≡ WrongOffset
+  pub offset_refused : (OffsetsRight file → ⊥) → first_refusal file ≡ Err WrongOffset
   offset_refused wrong = past_counts ∙ rw (is_false (offsets_fit file) (not_T (offsets_fit file) (λ t. wrong ((offsets_tested file).0 t))))
 
   module _ (right : OffsetsRight file) where
     fit : offsets_fit file ≡ true
     fit = is_true (offsets_fit file) ((offsets_tested file).1 right)
 
-    pub length_refused : (LengthRight file → ⊥) → first_refusal file ≡ WrongLength
+    pub length_refused : (LengthRight file → ⊥) → first_refusal file ≡ Err WrongLength
     length_refused wrong = past_counts ∙ rw (fit, is_false (length_fits file) (not_T (length_fits file) (λ t. wrong ((length_tested file).0 t))))
 
     pub then_walls : LengthRight file → first_refusal file ≡ (first_bad_wall 1 (walls file) or_else first_bad_load (walls file) [] 1 (entries file))

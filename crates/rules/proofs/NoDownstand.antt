@@ -1,5 +1,6 @@
 -- Document 02, "#107 Downstands": a wall without one is worked as before. The rules before the request stand here, where they were other; a wall of 35 fields reads as one with
 -- dd 0, since nothing stands behind its last field.
+use Rattle.std.specs.Prelude.{Option, None, Some}
 use mathlib.Core.Path.{◌≡◌, refl, ap, fun_ext, ◌∙◌}
 use mathlib.Core.Bool.{Bool, true, false, not, ◌&&◌, ◌||◌, cond}
 use mathlib.Core.List.{List, [], ◌∷◌, ◌++◌, map}
@@ -435,10 +436,10 @@ within_before wall ABar n = among n bars
 within_before wall AlongBase n = false
 within_before wall (UnderBase low high) n = false
 
-pub outside_before : Wall → ℕ → List Range → ℕ
-outside_before wall number [] = 0
+pub outside_before : Wall → ℕ → List Range → Option ℕ
+outside_before wall number [] = None
 outside_before wall number (range ∷ rest) =
-    cond (within_before wall range (field wall number)) (outside_before wall (suc number) rest) number
+    cond (within_before wall range (field wall number)) (outside_before wall (suc number) rest) (Some number)
 
 abbrev is_old : Range → Bool
 is_old (Between low high) = true
@@ -457,7 +458,7 @@ module _ (wall : Wall) (depth : downstand_depth wall ≡ 0) where
   within_same (UnderBase low high) t n = absurd t
 
   -- the first outside is among the ranges of before, or else among the new ones behind them
-  behind : (number : ℕ) (rs qs : List Range) → T (every is_old rs) → first_outside wall (suc number + length rs) qs ≡ 0
+  behind : (number : ℕ) (rs qs : List Range) → T (every is_old rs) → first_outside wall (suc number + length rs) qs ≡ None
       → first_outside wall (suc number) (rs ++ qs) ≡ outside_before wall (suc number) rs
   unfolding first_outside outside_before
   behind number [] qs t e = let k : suc number ≡ suc number + 0 = omega arith in rw k e

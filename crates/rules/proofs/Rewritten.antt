@@ -1,4 +1,8 @@
 -- Document 02, "#101 Write job files", as theorems: of the file that records make, of a file taken apart, and of the two calls, one behind the other.
+use Rattle.std.proofs.lemmas.Bool.{false≢true}
+use Rattle.rules.proofs.Replies.{gives_worked, worked_given, refusal_given}
+use Rattle.rules.specs.declared.Refusal.{Refusal}
+use Rattle.std.specs.Prelude.{is_ok, Result, Ok, Err, IsOkAnd}
 use Prim.Native.Nat.{ℕ, ◌+◌, ◌*◌, ◌≤◌}
 use mathlib.Core.Path.{◌≡◌, refl, sym, ap, ◌∙◌}
 use mathlib.Core.Bool.{Bool, true, false, not, ◌||◌, and-eq-true_iff}
@@ -11,14 +15,13 @@ use lib.ListN.{length, get_or, take, drop, length-append}
 use lib.Seq.{take_all, take-add, take-append_seam, drop-append_seam}
 use borrow.Author.Tests.{leb-true, eqb-true, eq-eqb, le-ltb, ltb-false}
 use Rattle.whole.proofs.Lists.{All, case}
-use Rattle.rules.specs.declared.Answer.TheVariants.{Worked, CountOutOfRange, BufferTooShort, OutputTooShort}
+use Rattle.rules.specs.declared.Refusal.TheVariants.{CountOutOfRange, BufferTooShort, OutputTooShort}
 use Rattle.rules.specs.declared.Taken.{Taken}
-use Rattle.rules.specs.declared.Written.{Written}
 use Rattle.rules.specs.JobFile.{File, u16_at, u32_at, u32s_at, this_edition, header_bytes, wall_fields, entry_fields, entry_bytes, most_walls, most_loads, edition, wall_count, first_wall_offset, load_count, first_load_offset, whole_length, entries_at, wall_at, entry_at, walls, entries}
-use Rattle.rules.specs.Answered.{is_worked, refused_if, counts_fit, offsets_fit, length_fits, first_refusal, accepted}
+use Rattle.rules.specs.Answered.{refused_if, counts_fit, offsets_fit, length_fits, first_refusal, accepted}
 use Rattle.rules.specs.SheetLine.{joined, refusal_text}
 use Rattle.rules.specs.Beyond.{onto, Put}
-use Rattle.rules.specs.WrittenFile.{record_count, records_in, u16_bytes, u32_bytes, u16s_bytes, u32s_bytes, walls_end, loads_end, header_of, file_of, records_fit, records_answer, writing_answer, bytes_written, Writes, taking_answer, walls_taken, loads_taken, TakesApart, file_room, rewritten}
+use Rattle.rules.specs.WrittenFile.{record_count, records_in, u16_bytes, u32_bytes, u16s_bytes, u32s_bytes, walls_end, loads_end, header_of, file_of, records_fit, records_answer, writing_answer, bytes_written, Writes, taking_answer, walls_taken, loads_taken, TakesApart, file_room, rewritten, numbers_taken}
 use Rattle.rules.proofs.AcceptedFile.{first_worked, not_refused, passes, edition_is, counts_fit_lem, wall_count_lem, load_count_lem, offsets_fit_lem, length_fits_lem, ends, length_is}
 use Rattle.rules.proofs.Bytes.{Numbers, u16s_at, u32s_length, u16s_back, u32s_back, u16s_again, u32s_again, u32s_count, joined_records, records_again, header_length, file_length}
 use Rattle.rules.proofs.LongInput.{IsByte, least_read, read_alike}
@@ -233,17 +236,17 @@ module _ (ws ls : List ℕ) (wallNumbers : Numbers ws) (loadNumbers : Numbers ls
 -- ---- what is answered by a call, and what it leaves
 
 -- records that aren't refused pass test 3
-pub records_fit_lem : (ws ls : List ℕ) → T (is_worked (records_answer ws ls)) → T (records_fit ws ls)
+pub records_fit_lem : (ws ls : List ℕ) → T (is_ok (records_answer ws ls)) → T (records_fit ws ls)
 unfolding records_answer
-records_fit_lem ws ls t = passes (records_fit ws ls) CountOutOfRange refl (first_worked (refused_if (not (records_fit ws ls)) CountOutOfRange) _ t).0
+records_fit_lem ws ls t = passes (records_fit ws ls) CountOutOfRange (first_worked (refused_if (not (records_fit ws ls)) CountOutOfRange) _ t).0
 
 -- where there is room, they are written, and an accepted file is taken apart
-writing_works : (ws ls : List ℕ) (room : ℕ) → T (is_worked (records_answer ws ls)) → length (file_of ws ls) ≤ room → writing_answer ws ls room ≡ Worked
+writing_works : (ws ls : List ℕ) (room : ℕ) → T (is_ok (records_answer ws ls)) → length (file_of ws ls) ≤ room → writing_answer ws ls room ≡ Ok tt
 unfolding writing_answer
-writing_works ws ls room t h = rw (is_true (is_worked (records_answer ws ls)) t, le-ltb room (length (file_of ws ls)) h)
+writing_works ws ls room t h = rw (is_true (is_ok (records_answer ws ls)) t, le-ltb room (length (file_of ws ls)) h)
 
 taking_works : (file : File) (m n : ℕ) → T (accepted file) → length (joined (walls file)) ≤ m → length (joined (entries file)) ≤ n
-    → taking_answer file m n ≡ Worked
+    → taking_answer file m n ≡ Ok tt
 unfolding taking_answer
 taking_works file m n t h k =
     rw (
@@ -253,26 +256,26 @@ taking_works file m n t h k =
     )
 
 -- and where they are, there was
-pub written_fits : (ws ls : List ℕ) (room : ℕ) → T (is_worked (writing_answer ws ls room)) → T (records_fit ws ls) × (length (file_of ws ls) ≤ room)
+pub written_fits : (ws ls : List ℕ) (room : ℕ) → T (is_ok (writing_answer ws ls room)) → T (records_fit ws ls) × (length (file_of ws ls) ≤ room)
 unfolding writing_answer
 written_fits ws ls room t =
     let long = length (file_of ws ls) in
     let past = first_worked (records_answer ws ls) _ t in
-    (records_fit_lem ws ls past.0, ltb-false room long (is_false (ltb room long) (not_refused (ltb room long) OutputTooShort refl past.1)))
+    (records_fit_lem ws ls past.0, ltb-false room long (is_false (ltb room long) (not_refused (ltb room long) OutputTooShort past.1)))
 
 neither : (a b : Bool) → T (not (a || b)) → (a ≡ false) × (b ≡ false)
 neither true b t = absurd t
 neither false true t = absurd t
 neither false false t = (refl, refl)
 
-pub taken_fits : (file : File) (m n : ℕ) → T (is_worked (taking_answer file m n))
+pub taken_fits : (file : File) (m n : ℕ) → T (is_ok (taking_answer file m n))
     → T (accepted file) × (wall_fields * wall_count file ≤ m) × (entry_fields * load_count file ≤ n)
 unfolding taking_answer
 taken_fits file m n t =
     let walled = ltb m (wall_fields * wall_count file) in
     let loaded = ltb n (entry_fields * load_count file) in
     let past = first_worked (first_refusal file) _ t in
-    let room = neither walled loaded (not_refused (walled || loaded) BufferTooShort refl past.1) in
+    let room = neither walled loaded (not_refused (walled || loaded) BufferTooShort past.1) in
     (past.0, ltb-false m _ room.0, ltb-false n _ room.1)
 
 -- a text that was put at the start of a buffer stands there
@@ -281,56 +284,60 @@ unfolding onto
 put_there {text} {before} put = rw (put.counted, put.holds) (take-append_seam text (drop (length text) before))
 
 -- where a file was written, its records aren't refused, and it stands at the start of the buffer
-file_written : {ws ls before after : List ℕ} {w : Written} → Writes ws ls before w after → T (is_worked w.answer)
-    → T (is_worked (records_answer ws ls)) × Put (file_of ws ls) before w.bytes after
+file_written : {ws ls before after : List ℕ} {n : ℕ} → Writes ws ls before (Ok n) after
+    → T (is_ok (records_answer ws ls)) × Put (file_of ws ls) before n after
 unfolding writing_answer bytes_written
-file_written {ws} {ls} {before} writes t =
-    let worked = rw writes.answered at t in
-    ((first_worked (records_answer ws ls) _ worked).0, rw (is_true (is_worked (writing_answer ws ls (length before))) worked) at writes.put)
+file_written {ws} {ls} {before} writes =
+    let given = worked_given (writing_answer ws ls (length before)) _ writes.answered in
+    let worked = is_true (is_ok (writing_answer ws ls (length before))) given.0 in
+    ((first_worked (records_answer ws ls) _ given.0).0, record { counted = rw worked at given.1; holds = rw worked at writes.holds })
 
 -- where one was taken apart, it is accepted, and its records stand at the start of the buffers
 pub records_taken : {file wallsBefore loadsBefore wallsAfter loadsAfter : List ℕ} {a : Taken}
-    → TakesApart file wallsBefore loadsBefore a wallsAfter loadsAfter → T (is_worked a.answer)
+    → TakesApart file wallsBefore loadsBefore (Ok a) wallsAfter loadsAfter
     → T (accepted file) × Put (joined (walls file)) wallsBefore a.walls wallsAfter × Put (joined (entries file)) loadsBefore a.loads loadsAfter
-unfolding taking_answer walls_taken loads_taken
-records_taken {file} {wallsBefore} {loadsBefore} apart t =
-    let passed = rw apart.answered at t in
-    let worked = is_true (is_worked (taking_answer file (length wallsBefore) (length loadsBefore))) passed in
-    ((first_worked (first_refusal file) _ passed).0, rw worked at apart.walls_put, rw worked at apart.loads_put)
+unfolding taking_answer walls_taken loads_taken numbers_taken
+records_taken {file} {wallsBefore} {loadsBefore} apart =
+    let given = worked_given (taking_answer file (length wallsBefore) (length loadsBefore)) _ apart.answered in
+    let worked = is_true (is_ok (taking_answer file (length wallsBefore) (length loadsBefore))) given.0 in (
+      (first_worked (first_refusal file) _ given.0).0,
+      record { counted = rw worked at (ap (λ (taken : Taken). taken.walls) given.1); holds = rw worked at apart.walls_held },
+      record { counted = rw worked at (ap (λ (taken : Taken). taken.loads) given.1); holds = rw worked at apart.loads_held },
+    )
 
 -- ---- the two calls, one behind the other
 
 -- "What it writes is read back as the same records": into buffers with the room for them
-pub written_is_read : {ws ls before after wallsBefore loadsBefore wallsAfter loadsAfter : List ℕ} {w : Written} {a : Taken}
-    → Writes ws ls before w after → Numbers ws → Numbers ls → T (is_worked w.answer)
-    → TakesApart (take w.bytes after) wallsBefore loadsBefore a wallsAfter loadsAfter → length ws ≤ length wallsBefore → length ls ≤ length loadsBefore
-    → (a.answer ≡ Worked) × Put ws wallsBefore a.walls wallsAfter × Put ls loadsBefore a.loads loadsAfter
-written_is_read {ws} {ls} {wallsBefore} {loadsBefore} {a} writes wallNumbers loadNumbers t taking h k =
-    let written = file_written writes t in
+pub written_is_read : {ws ls before after wallsBefore loadsBefore wallsAfter loadsAfter : List ℕ} {n : ℕ} {a : Result Taken Refusal}
+    → Writes ws ls before (Ok n) after → Numbers ws → Numbers ls
+    → TakesApart (take n after) wallsBefore loadsBefore a wallsAfter loadsAfter → length ws ≤ length wallsBefore → length ls ≤ length loadsBefore
+    → IsOkAnd a (λ taken. Put ws wallsBefore taken.walls wallsAfter × Put ls loadsBefore taken.loads loadsAfter)
+written_is_read {ws} {ls} {wallsBefore} {loadsBefore} {a} writes wallNumbers loadNumbers taking h k =
+    let written = file_written writes in
     let fit = records_fit_lem ws ls written.0 in
     let back = read_back ws ls wallNumbers loadNumbers fit in
     let apart = rw (put_there written.1) at taking in
     let good : T (accepted (file_of ws ls)) = rw (reader_answers ws ls wallNumbers loadNumbers fit) written.0 in
     let works = taking_works (file_of ws ls) (length wallsBefore) (length loadsBefore) good (rw back.0 h) (rw back.1 k) in
-    let worked : a.answer ≡ Worked = apart.answered ∙ works in
-    let held = records_taken apart (rw worked tt) in
-    (worked, rw back.0 at held.1, rw back.1 at held.2)
+    let taken : a ≡ Ok (numbers_taken (file_of ws ls) (length wallsBefore) (length loadsBefore)) = apart.answered ∙ gives_worked _ _ (rw works tt) in
+    let held = records_taken (rw taken at apart) in rw taken (rw back.0 at held.1, rw back.1 at held.2)
 
 -- a file that is taken apart is accepted, and written again into a buffer with the room it is what is printed
-pub written_again : {file wallsBefore loadsBefore wallsAfter loadsAfter before after : List ℕ} {a : Taken} {w : Written}
-    → TakesApart file wallsBefore loadsBefore a wallsAfter loadsAfter → T (is_worked a.answer)
+pub written_again : {file wallsBefore loadsBefore wallsAfter loadsAfter before after : List ℕ} {a : Taken} {w : Result ℕ Refusal}
+    → TakesApart file wallsBefore loadsBefore (Ok a) wallsAfter loadsAfter
     → Writes (take a.walls wallsAfter) (take a.loads loadsAfter) before w after → length (rewritten file) ≤ length before
-    → (w.answer ≡ Worked) × Put (rewritten file) before w.bytes after
+    → IsOkAnd w (λ n. Put (rewritten file) before n after)
 unfolding rewritten
-written_again {file} {before} {w} apart t writing room =
-    let held = records_taken apart t in
+written_again {file} {before} {w} apart writing room =
+    let held = records_taken apart in
     let ws = joined (walls file) in
     let ls = joined (entries file) in
     let accepts = is_true (accepted file) held.0 in
     let writes = rw (put_there held.1, put_there held.2) at writing in
     let good = rw (answered_alike file (right_header file held.0)) at held.0 in
-    let worked : w.answer ≡ Worked = writes.answered ∙ writing_works ws ls (length before) good (rw accepts at room) in
-    (worked, rw accepts (file_written writes (rw worked tt)).1)
+    let works = writing_works ws ls (length before) good (rw accepts at room) in
+    let written : w ≡ Ok (length (bytes_written ws ls (length before))) = writes.answered ∙ gives_worked _ _ (rw works tt) in
+    rw (written, accepts) (file_written (rw written at writes)).1
 
 -- of a job that is accepted that is the file itself,
 pub rewritten_same : (file : File) → All IsByte file → T (accepted file) → rewritten file ≡ file
@@ -338,52 +345,56 @@ unfolding rewritten
 rewritten_same file bytes t = rw (is_true (accepted file) t) (same_bytes file bytes t)
 
 -- so that "any file that the reader accepts, taken apart and written again, gives the same bytes"
-pub taken_is_written : {file wallsBefore loadsBefore wallsAfter loadsAfter before after : List ℕ} {a : Taken} {w : Written}
-    → TakesApart file wallsBefore loadsBefore a wallsAfter loadsAfter → All IsByte file → T (is_worked a.answer)
+pub taken_is_written : {file wallsBefore loadsBefore wallsAfter loadsAfter before after : List ℕ} {a : Taken} {w : Result ℕ Refusal}
+    → TakesApart file wallsBefore loadsBefore (Ok a) wallsAfter loadsAfter → All IsByte file
     → Writes (take a.walls wallsAfter) (take a.loads loadsAfter) before w after → length file ≤ length before
-    → (w.answer ≡ Worked) × Put file before w.bytes after
-taken_is_written {file} apart bytes t writing room =
-    let same = rewritten_same file bytes (records_taken apart t).0 in rw same at (written_again apart t writing (rw same room))
+    → IsOkAnd w (λ n. Put file before n after)
+taken_is_written {file} apart bytes writing room =
+    let same = rewritten_same file bytes (records_taken apart).0 in rw same at (written_again apart writing (rw same room))
 
 -- "Bytes after the file stay untouched,
-pub untouched : {ws ls before after : List ℕ} {w : Written} → Writes ws ls before w after → drop w.bytes after ≡ drop w.bytes before
+pub untouched : {ws ls before after : List ℕ} {n : ℕ} → Writes ws ls before (Ok n) after → drop n after ≡ drop n before
 unfolding onto
 untouched {ws} {ls} {before} writes =
     let bytes = bytes_written ws ls (length before) in
-    rw (writes.put.counted, writes.put.holds) (drop-append_seam bytes (drop (length bytes) before))
+    let counted = (worked_given (writing_answer ws ls (length before)) _ writes.answered).1 in
+    rw (counted, writes.holds) (drop-append_seam bytes (drop (length bytes) before))
 
 -- and a refusal writes none"
-pub refusal_writes_none : {ws ls before after : List ℕ} {w : Written} → Writes ws ls before w after → T (not (is_worked w.answer))
-    → (w.bytes ≡ 0) × (after ≡ before)
+pub refusal_writes_none : {ws ls before after : List ℕ} {refusal : Refusal} → Writes ws ls before (Err refusal) after → after ≡ before
 unfolding bytes_written onto
-refusal_writes_none {w} writes t =
-    let put = rw (← writes.answered, is_false (is_worked w.answer) t) at writes.put in (put.counted, put.holds)
+refusal_writes_none {ws} {ls} {before} writes =
+    let refused = refusal_given (writing_answer ws ls (length before)) _ writes.answered in rw refused at writes.holds
 
 -- no more bytes are written than the longest job has
-pub written_small : {ws ls before after : List ℕ} {w : Written} → Writes ws ls before w after → w.bytes ≤ file_room
+pub written_small : {ws ls before after : List ℕ} {n : ℕ} → Writes ws ls before (Ok n) after → n ≤ file_room
 unfolding writing_answer bytes_written
 written_small {ws} {ls} {before} writes =
-    rw writes.put.counted
-    (case (is_worked (writing_answer ws ls (length before))) (file_of ws ls) [] (λ bytes. length bytes ≤ file_room)
+    rw (worked_given (writing_answer ws ls (length before)) _ writes.answered).1
+    (case (is_ok (writing_answer ws ls (length before))) (file_of ws ls) [] (λ bytes. length bytes ≤ file_room)
     (λ t. file_small ws ls (records_fit_lem ws ls (first_worked (records_answer ws ls) _ t).0))
     (λ t. omega arith))
 
 -- ---- a job written again, as it is printed: taken apart into buffers with the room for any
 
 -- where they have it, the only refusals are the reader's, and the text is the refusal's
-pub refusal_printed : {file wallsBefore loadsBefore wallsAfter loadsAfter : List ℕ} {a : Taken} → TakesApart file wallsBefore loadsBefore a wallsAfter loadsAfter
-    → wall_fields * most_walls ≤ length wallsBefore → entry_fields * most_loads ≤ length loadsBefore → T (not (is_worked a.answer))
-    → refusal_text a.answer ≡ rewritten file
+pub refusal_printed : {file wallsBefore loadsBefore wallsAfter loadsAfter : List ℕ} {refusal : Refusal}
+    → TakesApart file wallsBefore loadsBefore (Err refusal) wallsAfter loadsAfter
+    → wall_fields * most_walls ≤ length wallsBefore → entry_fields * most_loads ≤ length loadsBefore
+    → refusal_text (Err refusal) ≡ rewritten file
 unfolding taking_answer rewritten
-refusal_printed {file} {wallsBefore} {loadsBefore} {a} apart h k t = go (accepted file) refl
+refusal_printed {file} {wallsBefore} {loadsBefore} {refusal} apart h k = go (accepted file) refl
   where
-    go : (is : Bool) → accepted file ≡ is → refusal_text a.answer ≡ rewritten file
+    refused : taking_answer file (length wallsBefore) (length loadsBefore) ≡ Err refusal
+    refused = refusal_given (taking_answer file (length wallsBefore) (length loadsBefore)) _ apart.answered
+
+    go : (is : Bool) → accepted file ≡ is → refusal_text (Err refusal) ≡ rewritten file
     go true e =
         let counted = wall_count_lem file (rw e tt) in
         let loaded = load_count_lem file (rw e tt) in
         let works = taking_works file (length wallsBefore) (length loadsBefore) (rw e tt) (omega (arith, walls_numbers file)) (omega (arith, entries_numbers file)) in
-        absurd (rw (apart.answered, works) at t)
-    go false e = let its : a.answer ≡ first_refusal file = apart.answered ∙ rw e in rw (its, e)
+        absurd (false≢true (ap is_ok (sym refused ∙ works)))
+    go false e = let its : first_refusal file ≡ Err refusal = rw e at refused in rw its
 
 -- of a job that is accepted there is room for it
 pub rewritten_small : (file : File) → T (accepted file) → length (rewritten file) ≤ file_room

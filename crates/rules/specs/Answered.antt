@@ -1,50 +1,57 @@
 -- Document 01, "What is answered", as request #102 of document 02 has it: each answer's number and place, and the first refusal of a job file in the order of the tests.
-use Rattle.std.specs.Prelude.{ℕ, suc, ◌+◌, ◌-◌, ◌*◌, Bool, not, ◌&&◌, cond, List, [], ◌∷◌, ◌++◌, leb, ltb, eqb, length, get_or}
-use Rattle.rules.specs.declared.Answer.{Answer}
-use Rattle.rules.specs.declared.Answer.TheVariants.{Worked, TooShort, WrongEdition, CountOutOfRange, WrongOffset, WrongLength, WallOutOfRange, LoadOutOfRange, NinthLoad, BufferTooShort, OutputTooShort, NoSuchWall}
-use Rattle.rules.specs.JobFile.{File, Wall, Entry, header_bytes, this_edition, edition, wall_count, first_wall_offset, load_count, first_load_offset, whole_length, entry_bytes, most_walls, most_loads, most_loads_on_wall, entries_at, walls, entries, first_bad_field, wall_fits, wall_of, load_of, load_fits, loads_on}
+use Rattle.rules.specs.declared.Refusal.{Refusal}
+use Rattle.std.specs.Prelude.{ℕ, suc, ◌+◌, ◌-◌, ◌*◌, Bool, not, ◌&&◌, cond, List, [], ◌∷◌, ◌++◌, leb, ltb, eqb, length, get_or, is_ok, Result, Ok, Err, ⊤, Option, None, Some}
+use Rattle.rules.specs.declared.Refusal.TheVariants.{TooShort, WrongEdition, CountOutOfRange, WrongOffset, WrongLength, WallOutOfRange, LoadOutOfRange, NinthLoad, BufferTooShort, OutputTooShort, NoSuchWall}
+use Rattle.rules.specs.JobFile.{File, Wall, Entry, header_bytes, this_edition, edition, wall_count, first_wall_offset, load_count, first_load_offset, whole_length, entry_bytes, most_walls, most_loads, most_loads_on_wall, entries_at, walls, entries, first_bad_field, wall_of, load_of, load_fits, loads_on}
 
--- a refusal's number; 0 says that the job is worked
+-- what is answered: all is well, or the refusal
+abbrev pub Answer : Type 0
+Answer = Result ⊤ Refusal
+
+-- a refusal's number; 0 says that all is well
 abbrev pub number : Answer → ℕ
-number Worked = 0
-number TooShort = 1
-number WrongEdition = 2
-number CountOutOfRange = 3
-number WrongOffset = 4
-number WrongLength = 10
-number (WallOutOfRange wall field) = 5
-number (LoadOutOfRange load) = 6
-number (NinthLoad load) = 7
-number BufferTooShort = 8
-number OutputTooShort = 9
-number (NoSuchWall wall) = 18
+number (Ok well) = 0
+number (Err TooShort) = 1
+number (Err WrongEdition) = 2
+number (Err CountOutOfRange) = 3
+number (Err WrongOffset) = 4
+number (Err WrongLength) = 10
+number (Err (WallOutOfRange wall field)) = 5
+number (Err (LoadOutOfRange load)) = 6
+number (Err (NinthLoad load)) = 7
+number (Err BufferTooShort) = 8
+number (Err OutputTooShort) = 9
+number (Err (NoSuchWall wall)) = 18
 
 -- its place; a wall and its field have one together
 abbrev pub place : Answer → ℕ
-place Worked = 0
-place TooShort = 0
-place WrongEdition = 0
-place CountOutOfRange = 0
-place WrongOffset = 0
-place WrongLength = 0
-place (WallOutOfRange wall field) = wall * 100 + field
-place (LoadOutOfRange load) = load
-place (NinthLoad load) = load
-place BufferTooShort = 0
-place OutputTooShort = 0
-place (NoSuchWall wall) = wall
-
-abbrev pub is_worked : Answer → Bool
-is_worked answer = eqb (number answer) 0
+place (Ok well) = 0
+place (Err TooShort) = 0
+place (Err WrongEdition) = 0
+place (Err CountOutOfRange) = 0
+place (Err WrongOffset) = 0
+place (Err WrongLength) = 0
+place (Err (WallOutOfRange wall field)) = wall * 100 + field
+place (Err (LoadOutOfRange load)) = load
+place (Err (NinthLoad load)) = load
+place (Err BufferTooShort) = 0
+place (Err OutputTooShort) = 0
+place (Err (NoSuchWall wall)) = wall
 
 -- a refusal, where the test says so
-abbrev pub refused_if : Bool → Answer → Answer
-refused_if test refusal = cond test refusal Worked
+abbrev pub refused_if : Bool → Refusal → Answer
+refused_if test refusal = cond test (Err refusal) (Ok tt)
 
 -- the first of two refusals
 infixr 20 ◌or_else◌
 abbrev pub ◌or_else◌ : Answer → Answer → Answer
-first or_else second = cond (is_worked first) second first
+first or_else second = cond (is_ok first) second first
+
+-- what is worked where all is well, or the same refusal
+infixr 10 ◌gives◌
+abbrev pub ◌gives◌ : {A : Type 0} → Answer → A → Result A Refusal
+(Ok well) gives worked = Ok worked
+(Err refusal) gives worked = Err refusal
 
 -- ---- 3: the counts; 4: the offsets that they give; 10: the length that they give, which is the input's too
 
@@ -59,12 +66,17 @@ length_fits file = eqb (whole_length file) (entries_at file + entry_bytes * load
 
 -- ---- 5: walls in file order, the first of them number n
 
--- a wall with a field out of range is refused at the number that it has, and at the first such field
+-- wall number n, by the number of its first field out of range
+abbrev pub refused_at : ℕ → Option ℕ → Answer
+refused_at n None = Ok tt
+refused_at n (Some field) = Err (WallOutOfRange n field)
+
+-- a wall with such a field is refused at the number that it has, and at the first of them
 unfoldable pub wall_answer : ℕ → Wall → Answer
-wall_answer n wall = refused_if (not (wall_fits wall)) (WallOutOfRange n (first_bad_field wall))
+wall_answer n wall = refused_at n (first_bad_field wall)
 
 unfoldable pub first_bad_wall : ℕ → List Wall → Answer
-first_bad_wall n [] = Worked
+first_bad_wall n [] = Ok tt
 first_bad_wall n (wall ∷ rest) = wall_answer n wall or_else first_bad_wall (suc n) rest
 
 -- ---- 6 and 7: loads in file order, the first of them number n, behind those that were passed
@@ -84,7 +96,7 @@ unfoldable pub is_one_more : List Entry → Entry → Bool
 is_one_more passed entry = leb most_loads_on_wall (length (loads_on (wall_of entry) passed))
 
 unfoldable pub first_bad_load : List Wall → List Entry → ℕ → List Entry → Answer
-first_bad_load there passed n [] = Worked
+first_bad_load there passed n [] = Ok tt
 first_bad_load there passed n (entry ∷ rest) =
     refused_if (not (entry_fits there entry)) (LoadOutOfRange n)
     or_else refused_if (is_one_more passed entry) (NinthLoad n)
@@ -104,4 +116,4 @@ first_refusal file =
 
 -- a job that is accepted has none of these
 abbrev pub accepted : File → Bool
-accepted file = is_worked (first_refusal file)
+accepted file = is_ok (first_refusal file)

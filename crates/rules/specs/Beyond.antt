@@ -1,28 +1,24 @@
 -- What document 01 has no word for, and the entries answer all the same: one wall with its loads by itself, a section that can't be worked, what a refusal holds, a text in a
 -- lent buffer, and the printed drawing.
-use Rattle.std.specs.Prelude.{ℕ, suc, ◌*◌, ◌≡◌, Bool, false, not, ◌&&◌, cond, List, [], ◌∷◌, ◌++◌, map, leb, ltb, length, drop, replicate, pos, Float}
+use Rattle.rules.specs.declared.Member.{Member}
+use Rattle.rules.specs.declared.Refusal.{Refusal}
+use Rattle.std.specs.Prelude.{ℕ, suc, ◌*◌, ◌≡◌, Bool, not, ◌&&◌, cond, List, [], ◌∷◌, ◌++◌, map, leb, ltb, length, drop, Float, is_ok, Result, Ok, Err, Option, Some, None, ℤ}
 use Prim.Native.Char.{code}
 use Rattle.std.specs.Float.{binary64}
 use Rattle.std.specs.Float.Ieee.{to_bits}
 use Rattle.rules.specs.declared.Action.{Action}
-use Rattle.rules.specs.declared.Answer.{Answer}
-use Rattle.rules.specs.declared.Answer.TheVariants.{Worked, LoadOutOfRange, NinthLoad}
+use Rattle.rules.specs.declared.Refusal.TheVariants.{LoadOutOfRange, NinthLoad}
 use Rattle.rules.specs.declared.Borne.{Borne}
 use Rattle.rules.specs.declared.Drawn.{Drawn}
 use Rattle.rules.specs.declared.Forces.{Forces}
 use Rattle.rules.specs.declared.Section.{Section}
 use Rattle.rules.specs.declared.Shape.{Shape}
 use Rattle.rules.specs.declared.Shape.TheVariants.{Whole, ToeTriangle, HeelTriangle, Nothing}
-use Rattle.rules.specs.declared.Sliding.{Sliding}
-use Rattle.rules.specs.declared.Totals.{Totals}
-use Rattle.rules.specs.declared.Verdict.{Verdict}
-use Rattle.rules.specs.declared.Verdict.TheVariants.{Judged, Unworkable}
-use Rattle.rules.specs.declared.WallLine.{WallLine}
 use Rattle.rules.specs.JobFile.{File, Wall, Load, Entry, most_walls, most_loads_on_wall, load_fits}
-use Rattle.rules.specs.Answered.{is_worked, refused_if, ◌or_else◌, first_bad_wall, first_bad_load}
+use Rattle.rules.specs.Answered.{refused_if, ◌or_else◌, first_bad_wall, first_bad_load, Answer, ◌gives◌}
 use Rattle.rules.specs.Forces.{service, factored, sliding_of}
-use Rattle.rules.specs.Bearing.{service_scale, factored_scale, block_under, service_block, factored_block, pressed_by}
-use Rattle.rules.specs.ToeAndStem.{stem_action, fill_on_heel, twice_depth, member_under, no_action}
+use Rattle.rules.specs.Bearing.{service_scale, factored_scale, service_block, factored_block, pressed_by}
+use Rattle.rules.specs.ToeAndStem.{stem_action, fill_on_heel, twice_depth, member_under}
 use Rattle.rules.specs.SheetLine.{line_numbers, line, ascii, hex_digits, refusal_text, printed}
 
 -- ---- one wall with its loads, which are numbered from 1: it is answered as a file would be that has just these, its header apart
@@ -34,32 +30,22 @@ unfoldable pub examined : Wall → List Load → Answer
 examined wall loads = first_bad_wall 1 (wall ∷ []) or_else first_bad_load (wall ∷ []) [] 1 (map alone loads)
 
 abbrev pub fits : Wall → List Load → Bool
-fits wall loads = is_worked (examined wall loads)
+fits wall loads = is_ok (examined wall loads)
 
--- the number of the first of a wall's loads that doesn't fit it, from a number on; 0 where there is none
-unfoldable pub first_unfit : Wall → ℕ → List Load → ℕ
-first_unfit wall number [] = 0
-first_unfit wall number (load ∷ rest) = cond (load_fits wall load) (first_unfit wall (suc number) rest) number
+-- the number of the first of a wall's loads that doesn't fit it, the first of them having a number
+unfoldable pub first_unfit : Wall → ℕ → List Load → Option ℕ
+first_unfit wall number [] = None
+first_unfit wall number (load ∷ rest) = cond (load_fits wall load) (first_unfit wall (suc number) rest) (Some number)
 
 -- 6 and 7 of the load with a number: whether it fits, and how many were passed on its wall
 abbrev pub load_answer : Bool → ℕ → ℕ → Answer
 load_answer isFit passed number = refused_if (not isFit) (LoadOutOfRange number) or_else refused_if (leb most_loads_on_wall passed) (NinthLoad number)
 
--- ---- its forces, or the refusal and every figure 0
-
-abbrev pub no_totals : Totals
-no_totals = record { R = pos 0; H = pos 0; Mrest = pos 0; Mot = pos 0; M6 = pos 0 }
-
-abbrev pub no_sliding : Sliding
-no_sliding = record { passive = 0; friction = 0; slides = false; propping = 0 }
-
-abbrev pub no_forces : Answer → Forces
-no_forces refusal = record { answer = refusal; service = no_totals; factored = no_totals; sliding = no_sliding; stem = no_action; fill = 0 }
+-- ---- its forces, or the refusal
 
 unfoldable pub worked_forces : Wall → List Load → Forces
 worked_forces wall loads =
     record {
-      answer = Worked;
       service = service wall loads;
       factored = factored wall loads;
       sliding = sliding_of wall loads;
@@ -67,10 +53,10 @@ worked_forces wall loads =
       fill = fill_on_heel wall;
     }
 
-unfoldable pub forces_of : Wall → List Load → Forces
-forces_of wall loads = cond (fits wall loads) (worked_forces wall loads) (no_forces (examined wall loads))
+unfoldable pub forces_of : Wall → List Load → Result Forces Refusal
+forces_of wall loads = examined wall loads gives worked_forces wall loads
 
--- ---- its forces and the blocks that bear its totals; a refused wall has totals of 0, and so no block
+-- ---- its forces and the blocks that bear its totals
 
 unfoldable pub worked_bearing : Wall → List Load → Borne
 worked_bearing wall loads =
@@ -80,21 +66,13 @@ worked_bearing wall loads =
       factored = pressed_by factored_scale (factored_block wall loads);
     }
 
-unfoldable pub bearing_of : Wall → List Load → Borne
-bearing_of wall loads =
-    let f = forces_of wall loads in
-    record {
-      forces = f;
-      service = pressed_by service_scale (block_under service_scale f.service wall);
-      factored = pressed_by factored_scale (block_under factored_scale f.factored wall);
-    }
+unfoldable pub bearing_of : Wall → List Load → Result Borne Refusal
+bearing_of wall loads = examined wall loads gives worked_bearing wall loads
 
--- ---- its line with the number that it is given, or the refusal and nothing but zeros
+-- ---- its line with the number that it is given, or the refusal
 
-unfoldable pub line_of : ℕ → Wall → List Load → WallLine
-line_of n wall loads =
-    cond (fits wall loads) (record { answer = Worked; numbers = line n wall loads })
-    (record { answer = examined wall loads; numbers = replicate line_numbers (pos 0) })
+unfoldable pub line_of : ℕ → Wall → List Load → Result (List ℤ) Refusal
+line_of n wall loads = examined wall loads gives line n wall loads
 
 -- ---- any section: one that can be worked has numbers that can be multiplied, steel of some strength, and depth enough for a lever arm
 
@@ -115,8 +93,8 @@ is_small s =
 unfoldable pub is_workable : Section → Bool
 is_workable s = is_small s && leb 1 s.steel && leb 2 (twice_depth s)
 
-unfoldable pub verdict_of : Section → Action → Verdict
-verdict_of s a = cond (is_workable s) (Judged (member_under s a)) Unworkable
+unfoldable pub verdict_of : Section → Action → Option Member
+verdict_of s a = cond (is_workable s) (Some (member_under s a)) None
 
 -- ---- a text in a lent buffer
 
@@ -177,5 +155,6 @@ figures_text (x ∷ rest) = code " " ∷ figure_text x ++ figures_text rest
 unfoldable pub drawn_text : Drawn → List ℕ
 drawn_text d = shape_name d.shape ++ figures_text (figures d) ++ code "\n" ∷ []
 
-unfoldable pub drawing_text : Drawn → List ℕ
-drawing_text d = cond (is_worked d.answer) (drawn_text d) (refusal_text d.answer)
+unfoldable pub drawing_text : Result Drawn Refusal → List ℕ
+drawing_text (Ok d) = drawn_text d
+drawing_text (Err refusal) = refusal_text (Err refusal)

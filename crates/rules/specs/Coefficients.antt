@@ -1,9 +1,8 @@
 -- Document 02, "#108 Coefficients from the angle": the sine of an angle, the coefficients K0 and Ka that it gives, and how these are printed. Angles are in tenths of a degree.
-use Rattle.std.specs.Prelude.{ℕ, zero, suc, ◌+◌, ◌-◌, ◌*◌, Bool, ◌&&◌, cond, List, [], ◌∷◌, ◌++◌, leb}
+use Rattle.std.specs.Prelude.{ℕ, zero, suc, ◌+◌, ◌-◌, ◌*◌, Bool, ◌&&◌, cond, List, [], ◌∷◌, ◌++◌, leb, Option, Some, None}
 use Prim.Native.Char.{code}
 use Rattle.whole.specs.Rounding.{rounded_up, rounded_down, rounded_nearest}
 use Rattle.rules.specs.declared.Coefficients.{Coefficients}
-use Rattle.rules.specs.declared.Sine.{Sine}
 use Rattle.rules.specs.SheetLine.{ascii, decimal}
 
 -- ---- sines and cosines, between bounds
@@ -59,10 +58,8 @@ sine angle = in_millionths (turned angle).low_sine
 abbrev pub most_turned : ℕ
 most_turned = 900
 
-unfoldable pub sine_of : ℕ → Sine
-sine_of angle =
-    let isInTable = leb angle most_turned in
-    record { in_range = isInTable; millionths = cond isInTable (sine angle) 0 }
+unfoldable pub sine_of : ℕ → Option ℕ
+sine_of angle = cond (leb angle most_turned) (Some (sine angle)) None
 
 -- K0 = 1 - sine, in thousandths rounded up
 unfoldable pub at_rest : ℕ → ℕ
@@ -76,13 +73,12 @@ active sine = rounded_up (1000 * (million - sine)) (million + sine)
 abbrev pub is_soil : ℕ → Bool
 is_soil angle = leb 1 angle && leb angle 450
 
-unfoldable pub coefficients_of : ℕ → Coefficients
-coefficients_of angle =
-    record {
-      in_range = is_soil angle;
-      rest = cond (is_soil angle) (at_rest (sine angle)) 0;
-      active = cond (is_soil angle) (active (sine angle)) 0;
-    }
+-- those that the sine of an angle makes
+abbrev pub made_by : ℕ → Coefficients
+made_by sine = record { rest = at_rest sine; active = active sine }
+
+unfoldable pub coefficients_of : ℕ → Option Coefficients
+coefficients_of angle = cond (is_soil angle) (Some (made_by (sine angle))) None
 
 -- ---- as they are printed: a line with each behind its name, or the refusal
 
@@ -93,5 +89,6 @@ named_text rest active = ascii "K0 " ++ decimal rest ++ ascii " Ka " ++ decimal 
 unfoldable pub refused_text : List ℕ
 refused_text = ascii "refused 11 0" ++ code "\n" ∷ []
 
-unfoldable pub coefficients_text : Coefficients → List ℕ
-coefficients_text c = cond c.in_range (named_text c.rest c.active) refused_text
+unfoldable pub coefficients_text : Option Coefficients → List ℕ
+coefficients_text (Some c) = named_text c.rest c.active
+coefficients_text None = refused_text

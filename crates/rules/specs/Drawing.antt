@@ -1,10 +1,10 @@
 -- Document 01, "The bearing block", its last paragraph: the service block for the drawing office, from a job file and a wall's number.
 -- A figure is a quotient in IEEE 754's binary64: `of_int` makes doubles of dividend and divisor, and `div` rounds once.
-use Rattle.std.specs.Prelude.{ℕ, ◌≡◌, not, cond, ℤ, pos, ◌*ℤ◌, Float}
+use Rattle.rules.specs.declared.Refusal.{Refusal}
+use Rattle.std.specs.Prelude.{ℕ, ◌≡◌, not, ℤ, pos, ◌*ℤ◌, Float, Result}
 use Rattle.std.specs.Float.{binary64}
 use Rattle.std.specs.Float.Ieee.{of_int, div}
-use Rattle.rules.specs.declared.Answer.{Answer}
-use Rattle.rules.specs.declared.Answer.TheVariants.{Worked, NoSuchWall}
+use Rattle.rules.specs.declared.Refusal.TheVariants.{NoSuchWall}
 use Rattle.rules.specs.declared.Block.{Block}
 use Rattle.rules.specs.declared.Drawing.{Drawing}
 use Rattle.rules.specs.declared.Drawn.{Drawn}
@@ -15,7 +15,7 @@ use Rattle.rules.specs.declared.Shape.{Shape}
 use Rattle.rules.specs.declared.Shape.TheVariants.{Whole, ToeTriangle, HeelTriangle, Nothing}
 use Rattle.rules.specs.declared.Totals.{Totals}
 use Rattle.rules.specs.JobFile.{File, walls, entries, loads_on}
-use Rattle.rules.specs.Answered.{is_worked, refused_if, ◌or_else◌, is_there, numbered, first_refusal}
+use Rattle.rules.specs.Answered.{refused_if, ◌or_else◌, is_there, numbered, first_refusal, Answer, ◌gives◌}
 use Rattle.rules.specs.Forces.{service}
 use Rattle.rules.specs.Bearing.{service_scale, reported, service_block}
 
@@ -56,17 +56,11 @@ unfoldable pub drawn : File → ℕ → Drawn
 drawn file n =
     let wall = numbered n (walls file) in
     let its = loads_on n (entries file) in
-    record { answer = Worked; drawing = drawing_of (service wall its); shape = shape_of (service_block wall its) }
+    record { drawing = drawing_of (service wall its); shape = shape_of (service_block wall its) }
 
--- of a refusal: no shape, and 0 for each figure
-unfoldable pub undrawn : Answer → Drawn
-undrawn answer =
-    let none = of_int binary64 (pos 0) in
-    record { answer = answer; drawing = record { R = none; H = none; distance = none }; shape = Nothing }
-
-unfoldable pub drawing_for : File → ℕ → Drawn
-drawing_for file n = cond (is_worked (answer_to_drawing file n)) (drawn file n) (undrawn (answer_to_drawing file n))
+unfoldable pub drawing_for : File → ℕ → Result Drawn Refusal
+drawing_for file n = answer_to_drawing file n gives drawn file n
 
 -- what is answered where wall n is to be drawn
-pub record Draws (file : File) (n : ℕ) (answer : Drawn) : Type 0 where
+pub record Draws (file : File) (n : ℕ) (answer : Result Drawn Refusal) : Type 0 where
   pub answered : answer ≡ drawing_for file n

@@ -1,5 +1,5 @@
 -- Document 01, "The job file": numbers out of bytes, the header, walls and loads as records, and the range of every field.
-use Rattle.std.specs.Prelude.{ℕ, zero, suc, ◌+◌, ◌-◌, ◌*◌, Bool, false, ◌&&◌, ◌||◌, cond, List, [], ◌∷◌, leb, ltb, eqb, get_or, drop}
+use Rattle.std.specs.Prelude.{ℕ, zero, suc, ◌+◌, ◌-◌, ◌*◌, Bool, false, ◌&&◌, ◌||◌, cond, List, [], ◌∷◌, leb, ltb, eqb, get_or, drop, Option, None, Some, is_none}
 use Rattle.rules.specs.declared.Range.{Range}
 use Rattle.rules.specs.declared.Range.TheVariants.{Between, UpToTop, AlongBase, UnderBase, ABar}
 
@@ -313,17 +313,17 @@ ranges =
     ∷ Between 0 1000 ∷ AlongBase ∷ UnderBase 100 1500
     ∷ []
 
--- the number of the first field out of range, from a number on; 0 where there is none
-unfoldable pub first_outside : Wall → ℕ → List Range → ℕ
-first_outside wall number [] = 0
+-- the number of the first field out of range, from a number on
+unfoldable pub first_outside : Wall → ℕ → List Range → Option ℕ
+first_outside wall number [] = None
 first_outside wall number (range ∷ rest) =
-    cond (within wall range (field wall number)) (first_outside wall (suc number) rest) number
+    cond (within wall range (field wall number)) (first_outside wall (suc number) rest) (Some number)
 
-unfoldable pub first_bad_field : Wall → ℕ
+unfoldable pub first_bad_field : Wall → Option ℕ
 first_bad_field wall = first_outside wall 1 ranges
 
 unfoldable pub wall_fits : Wall → Bool
-wall_fits wall = eqb (first_bad_field wall) 0
+wall_fits wall = is_none (first_bad_field wall)
 
 -- ---- a load's figures, and their range against its wall
 

@@ -1,16 +1,15 @@
 -- Document 01, "The sheet line": the checks and their bits, a wall's nineteen numbers, the result buffer after a call, and the printed text.
-use Rattle.std.specs.Prelude.{ℕ, zero, suc, ◌+◌, ◌-◌, ◌*◌, ◌/◌, ◌%◌, max, ◌≡◌, Bool, true, false, not, ◌||◌, cond, List, [], ◌∷◌, ◌++◌, map, ltb, eqb, length, get_or, drop, ℤ, pos, negsuc}
+use Rattle.std.specs.Prelude.{ℕ, zero, suc, ◌+◌, ◌-◌, ◌*◌, ◌/◌, ◌%◌, max, ◌≡◌, Bool, true, false, not, ◌||◌, cond, List, [], ◌∷◌, ◌++◌, map, ltb, eqb, length, get_or, drop, ℤ, pos, negsuc, is_ok}
 use Prim.Native.Char.{code}
 use Prim.Native.String.{String, [] as empty, ◌∷◌ as ◌then◌}
 use Rattle.std.specs.Int.Signed.{lt_z}
 use Rattle.whole.specs.Parts.{above_zero}
-use Rattle.rules.specs.declared.Answer.{Answer}
-use Rattle.rules.specs.declared.Answer.TheVariants.{BufferTooShort}
+use Rattle.rules.specs.declared.Refusal.TheVariants.{BufferTooShort}
 use Rattle.rules.specs.declared.Check.{Check}
 use Rattle.rules.specs.declared.Check.TheVariants.{Slides, Overturns, OverAllowable, NoServiceBlock, NoFactoredBlock, ToeSteel, StemSteel, Sheared, HeelSteel}
 use Rattle.rules.specs.declared.WorkedWall.{WorkedWall}
 use Rattle.rules.specs.JobFile.{File, Wall, Load, Entry, wall_count, allowable_bearing, walls, entries, loads_on}
-use Rattle.rules.specs.Answered.{number, place, is_worked, refused_if, ◌or_else◌, first_refusal}
+use Rattle.rules.specs.Answered.{number, place, refused_if, ◌or_else◌, first_refusal, Answer}
 use Rattle.rules.specs.Forces.{service, sliding_of}
 use Rattle.rules.specs.Bearing.{service_scale, factored_scale, service_block, factored_block, is_given, pressed_by}
 use Rattle.rules.specs.ToeAndStem.{toe, stem, heel}
@@ -127,7 +126,7 @@ answer_to file room = first_refusal file or_else refused_if (ltb room (line_numb
 -- every line, and beyond them what stood there; of a refused job all that stood there
 unfoldable pub buffer_after : File → List ℤ → List ℤ
 buffer_after file before =
-    cond (is_worked (answer_to file (length before))) (joined (sheet file) ++ drop (line_numbers * wall_count file) before) before
+    cond (is_ok (answer_to file (length before))) (joined (sheet file) ++ drop (line_numbers * wall_count file) before) before
 
 -- what a call answers, and what the lent buffer holds after it
 pub record Calculates (file : File) (before : List ℤ) (answer : Answer) (after : List ℤ) : Type 0 where
@@ -182,4 +181,4 @@ unfoldable pub refusal_text : Answer → List ℕ
 refusal_text answer = ascii "refused" ++ line_rest (pos (number answer) ∷ pos (place answer) ∷ [])
 
 unfoldable pub printed : File → List ℕ
-printed file = cond (is_worked (first_refusal file)) (joined (map line_text (sheet file))) (refusal_text (first_refusal file))
+printed file = cond (is_ok (first_refusal file)) (joined (map line_text (sheet file))) (refusal_text (first_refusal file))

@@ -1,14 +1,13 @@
 -- Document 02, "#101 Write job files": the file that wall and load records make, what is answered where it is written into a lent buffer, and its counterpart: a file taken apart
 -- into its records.
-use Rattle.std.specs.Prelude.{ℕ, ◌+◌, ◌*◌, ◌/◌, ◌%◌, ◌≡◌, Bool, not, ◌&&◌, ◌||◌, cond, List, [], ◌∷◌, ◌++◌, map, leb, ltb, eqb, length, take, drop}
-use Rattle.rules.specs.declared.Answer.{Answer}
-use Rattle.rules.specs.declared.Answer.TheVariants.{CountOutOfRange, BufferTooShort, OutputTooShort}
+use Rattle.rules.specs.declared.Refusal.{Refusal}
+use Rattle.std.specs.Prelude.{ℕ, ◌+◌, ◌*◌, ◌/◌, ◌%◌, ◌≡◌, Bool, not, ◌&&◌, ◌||◌, cond, List, [], ◌∷◌, ◌++◌, map, leb, ltb, eqb, length, take, drop, is_ok, Result}
+use Rattle.rules.specs.declared.Refusal.TheVariants.{CountOutOfRange, BufferTooShort, OutputTooShort}
 use Rattle.rules.specs.declared.Taken.{Taken}
-use Rattle.rules.specs.declared.Written.{Written}
 use Rattle.rules.specs.JobFile.{File, this_edition, header_bytes, wall_fields, entry_fields, wall_bytes, entry_bytes, most_walls, most_loads, wall_count, load_count, records_from, walls, entries}
-use Rattle.rules.specs.Answered.{is_worked, refused_if, ◌or_else◌, first_bad_wall, first_bad_load, first_refusal}
+use Rattle.rules.specs.Answered.{refused_if, ◌or_else◌, first_bad_wall, first_bad_load, first_refusal, Answer, ◌gives◌}
 use Rattle.rules.specs.SheetLine.{joined, refusal_text}
-use Rattle.rules.specs.Beyond.{Put, fitting}
+use Rattle.rules.specs.Beyond.{Put, fitting, onto}
 
 -- ---- records in a lent buffer of numbers: each has so many fields, and they stand one behind the other
 
@@ -83,12 +82,12 @@ writing_answer walls loads room = records_answer walls loads or_else refused_if 
 
 -- the bytes that are written: the file, and none where it is refused
 unfoldable pub bytes_written : List ℕ → List ℕ → ℕ → File
-bytes_written walls loads room = cond (is_worked (writing_answer walls loads room)) (file_of walls loads) []
+bytes_written walls loads room = cond (is_ok (writing_answer walls loads room)) (file_of walls loads) []
 
--- what a call answers, how many bytes it wrote, and what the lent buffer holds after it: those at its start, and beyond them what stood there
-pub record Writes (walls loads before : List ℕ) (written : Written) (after : List ℕ) : Type 0 where
-  pub answered : written.answer ≡ writing_answer walls loads (length before)
-  pub put : Put (bytes_written walls loads (length before)) before written.bytes after
+-- what a call answers, how many bytes it wrote or the refusal, and what the lent buffer holds after it: those at its start, and beyond them what stood there
+pub record Writes (walls loads before : List ℕ) (written : Result ℕ Refusal) (after : List ℕ) : Type 0 where
+  pub answered : written ≡ (writing_answer walls loads (length before) gives length (bytes_written walls loads (length before)))
+  pub holds : after ≡ onto (bytes_written walls loads (length before)) before
 
 -- ---- a file taken apart
 
@@ -100,16 +99,21 @@ taking_answer file wallRoom loadRoom =
 
 -- the numbers that are taken, of the walls and of the loads: all of them, and none where the file is refused
 unfoldable pub walls_taken : File → ℕ → ℕ → List ℕ
-walls_taken file wallRoom loadRoom = cond (is_worked (taking_answer file wallRoom loadRoom)) (joined (walls file)) []
+walls_taken file wallRoom loadRoom = cond (is_ok (taking_answer file wallRoom loadRoom)) (joined (walls file)) []
 
 unfoldable pub loads_taken : File → ℕ → ℕ → List ℕ
-loads_taken file wallRoom loadRoom = cond (is_worked (taking_answer file wallRoom loadRoom)) (joined (entries file)) []
+loads_taken file wallRoom loadRoom = cond (is_ok (taking_answer file wallRoom loadRoom)) (joined (entries file)) []
 
--- what a call answers, how many numbers it took, and what the two lent buffers hold after it: the records at their start, and beyond them what stood there
-pub record TakesApart (file wallsBefore loadsBefore : List ℕ) (taken : Taken) (wallsAfter loadsAfter : List ℕ) : Type 0 where
-  pub answered : taken.answer ≡ taking_answer file (length wallsBefore) (length loadsBefore)
-  pub walls_put : Put (walls_taken file (length wallsBefore) (length loadsBefore)) wallsBefore taken.walls wallsAfter
-  pub loads_put : Put (loads_taken file (length wallsBefore) (length loadsBefore)) loadsBefore taken.loads loadsAfter
+-- how many they are
+unfoldable pub numbers_taken : File → ℕ → ℕ → Taken
+numbers_taken file wallRoom loadRoom =
+    record { walls = length (walls_taken file wallRoom loadRoom); loads = length (loads_taken file wallRoom loadRoom) }
+
+-- what a call answers, how many numbers it took or the refusal, and what the two lent buffers hold after it: the records at their start, and beyond them what stood there
+pub record TakesApart (file wallsBefore loadsBefore : List ℕ) (taken : Result Taken Refusal) (wallsAfter loadsAfter : List ℕ) : Type 0 where
+  pub answered : taken ≡ (taking_answer file (length wallsBefore) (length loadsBefore) gives numbers_taken file (length wallsBefore) (length loadsBefore))
+  pub walls_held : wallsAfter ≡ onto (walls_taken file (length wallsBefore) (length loadsBefore)) wallsBefore
+  pub loads_held : loadsAfter ≡ onto (loads_taken file (length wallsBefore) (length loadsBefore)) loadsBefore
 
 -- ---- a job written again, as it is printed: taken apart and written, or its refusal
 
@@ -118,7 +122,7 @@ abbrev pub file_room : ℕ
 file_room = loads_end most_walls most_loads
 
 unfoldable pub rewritten : File → List ℕ
-rewritten file = cond (is_worked (first_refusal file)) (file_of (joined (walls file)) (joined (entries file))) (refusal_text (first_refusal file))
+rewritten file = cond (is_ok (first_refusal file)) (file_of (joined (walls file)) (joined (entries file))) (refusal_text (first_refusal file))
 
 -- what is put for it
 abbrev pub Rewrites : File → List ℕ → ℕ → List ℕ → Type 0

@@ -23,10 +23,9 @@ pub enum Range {
     ABar,
 }
 
-// What is answered: a case for each row of the table of refusals, in the order of their tests, and one for a job that is worked.
-#[derive(Clone, Copy)]
-pub enum Answer {
-    Worked,
+// Why nothing is worked: a case for each row of the table of refusals, in the order of their tests.
+#[derive(Clone, Copy, Debug, PartialEq, Eq)]
+pub enum Refusal {
     TooShort,
     WrongEdition,
     CountOutOfRange,
@@ -45,17 +44,12 @@ pub enum Answer {
     NoSuchWall(u32),
 }
 
-// What is answered where a job file is written: the answer, and how many bytes were written; a refusal writes none.
-#[derive(Clone, Copy)]
-pub struct Written {
-    pub answer: Answer,
-    pub bytes: usize,
-}
+// What is answered: all is well, or the refusal.
+pub type Answer = Result<(), Refusal>;
 
-// What is answered where a job file is taken apart: the answer, and how many numbers of each lent buffer are the file's records; a refusal takes none.
+// A job file taken apart: how many numbers of each lent buffer are its records.
 #[derive(Clone, Copy)]
 pub struct Taken {
-    pub answer: Answer,
     pub walls: usize,
     pub loads: usize,
 }
@@ -80,11 +74,10 @@ pub struct Sliding {
     pub propping: u64,
 }
 
-// The forces on a wall under its loads: the answer, the totals in service and factored, what holds the wall, what acts on its stem, and the factored fill
-// and surcharge on its heel in tenths of a N. A refusal has 0 for each figure.
+// The forces on a wall under its loads: the totals in service and factored, what holds the wall, what acts on its stem, and the factored fill and surcharge
+// on its heel in tenths of a N.
 #[derive(Clone, Copy)]
 pub struct Forces {
-    pub answer: Answer,
     pub service: Totals,
     pub factored: Totals,
     pub sliding: Sliding,
@@ -175,13 +168,6 @@ pub struct Member {
     pub sheared: bool,
 }
 
-// What is answered of any section: what it makes of the action on it, or that it can't be worked.
-#[derive(Clone, Copy)]
-pub enum Verdict {
-    Judged(Member),
-    Unworkable,
-}
-
 // A wall that is worked: its totals in service, what holds it, the blocks that bear it, its toe, its stem and its heel.
 #[derive(Clone, Copy)]
 pub struct WorkedWall {
@@ -211,26 +197,12 @@ pub enum Check {
 // How many numbers a wall's line has.
 pub const LINE: usize = 19;
 
+// A wall's line, in the order of the sheet.
 pub type LineNumbers = [i64; LINE];
 
-// A wall's line, in the order of the sheet, or the refusal and nothing but zeros.
-#[derive(Clone, Copy)]
-pub struct WallLine {
-    pub answer: Answer,
-    pub numbers: LineNumbers,
-}
-
-// What is answered of an angle: is it within the table, and its sine in millionths; 0 where it isn't.
-#[derive(Clone, Copy)]
-pub struct Sine {
-    pub in_range: bool,
-    pub millionths: u32,
-}
-
-// What is answered of a soil's angle: has a soil such an angle, and the coefficients at rest and active, K0 and Ka, in thousandths; 0 for both where none has.
+// The coefficients that a soil's angle gives: at rest and active, K0 and Ka, in thousandths.
 #[derive(Clone, Copy)]
 pub struct Coefficients {
-    pub in_range: bool,
     pub rest: u32,
     pub active: u32,
 }
@@ -255,10 +227,9 @@ pub enum Shape {
     Nothing,
 }
 
-// What is answered where a drawing is asked for.
+// A wall as it is drawn.
 #[derive(Clone, Copy)]
 pub struct Drawn {
-    pub answer: Answer,
     pub drawing: Drawing,
     pub shape: Shape,
 }

@@ -1,26 +1,15 @@
 // Document 01, "Toe and stem": the steel of a section, by BS 8110. Areas are in hundredths of mm2 on a metre's width.
 ghost use Rattle.std.specs.Prelude.{◌≡◌, ◌≤◌};
-ghost use Rattle.rules.specs.ToeAndStem.{twice_depth, needs_compression, lever_arm, needed_area, least_area, bar_area, provided_area, steel_under};
+ghost use Rattle.rules.specs.ToeAndStem.{needs_compression, lever_arm, needed_area, least_area, bar_area, provided_area, steel_under};
 ghost use Rattle.rules.specs.Beyond.{section_limit};
 ghost use Rattle.rules.proofs.ByRoot.{least_product, unlimited_arm};
-ghost use Rattle.rules.proofs.Sections.{Bounded, deepest, Within, greatest_moment};
+ghost use Rattle.rules.proofs.Sections.{deepest, Within, greatest_moment};
 
-use rules::{BARS, Section, Steel};
+use crate::small::Small;
+use rules::Steel;
 
 // The width that steel is worked for, in mm.
 const METRE: u64 = 1000;
-
-// The area of a bar of each diameter, in the order of the diameters.
-const BAR_AREAS: [u32; 8] = [5026, 7853, 11309, 20106, 31415, 49087, 80424, 125663];
-
-// D: twice the depth.
-pub fn twice_depth(section: Section) -> u64
-    requires { Bounded section }
-    ensures { (result ≡ twice_depth section) × (result ≤ deepest) }
-{
-    let covered = whole::excess(2 * section.thickness, 2 * section.cage.cover);
-    whole::excess(covered, section.cage.bar)
-}
 
 // BS 8110-1, 3.4.4.4, line by line. The width b is a metre; D is 2d and Z is 2z, in whole half millimetres.
 //     K = M / (b d^2 fcu), at most K' = 0.156      needs_compression: K > K' is M > 39 fcu D^2
@@ -28,45 +17,52 @@ pub fn twice_depth(section: Section) -> u64
 //     but not greater than 0.95 d                  lever_arm
 //     As = M / (0.87 fy z)                         needed_area: in hundredths of mm2 that is 20000 M / (87 fy Z)
 
-// M is more than the section bears without compression steel.
-pub fn needs_compression(m: u64, fcu: u64, d: u64) -> bool
-    requires { Within fcu d }
-    ensures { result ≡ needs_compression m fcu d }
-{
-    39 * fcu * (d * d) < m
+// What a section bears a moment with: its concrete's strength fcu, and D.
+#[derive(Clone, Copy)]
+pub struct Bending {
+    pub fcu: u64,
+    pub d: u64,
+    ghost within: { Within fcu d },
 }
 
-// q is M / (225 fcu), rounded up: M is borne at a Z just where Z (D - Z) is no less.
-fn least_product(m: u64, fcu: u64) -> u64
-    requires { fcu ≤ section_limit }
-    ensures { result ≡ least_product m fcu }
-{
-    whole::rounded_up(m, 225 * fcu)
-}
-
-// Z before its limit. The root is a whole number, and the last half millimetre is settled downwards.
-fn lever_by_root(m: u64, fcu: u64, d: u64) -> u64
-    requires { Within fcu d }
-    ensures { (result ≡ unlimited_arm m fcu d) × (result ≤ d) }
-{
-    // K / 0.9 is more than 0.25: there is no root. In the middle Z (D - Z) is greatest, and no Z bears M.
-    if 225 * fcu * (d * d / 4) < m {
-        return 0;
+impl Bending {
+    // M is more than the section bears without compression steel.
+    pub fn needs_compression(self, m: u64) -> bool
+        ensures { result ≡ needs_compression m self.fcu self.d }
+    {
+        39 * self.fcu * (self.d * self.d) < m
     }
-    let root = whole::square_root(d * d - 4 * least_product(m, fcu));
-    whole::rounded_down(d + root, 2)
-}
 
-// Z. Where M is borne at 0.95 D, the root would give no less, and isn't worked out.
-pub fn lever_arm(m: u64, fcu: u64, d: u64) -> u64
-    requires { Within fcu d }
-    ensures { (result ≡ lever_arm m fcu d) × (result ≤ d) }
-{
-    let limit = 19 * d / 20;
-    if 225 * fcu * limit * (d - limit) < m {
-        lever_by_root(m, fcu, d)
-    } else {
-        limit
+    // q is M / (225 fcu), rounded up: M is borne at a Z just where Z (D - Z) is no less.
+    fn least_product(self, m: u64) -> u64
+        ensures { result ≡ least_product m self.fcu }
+    {
+        whole::rounded_up(m, 225 * self.fcu)
+    }
+
+    // Z before its limit. The root is a whole number, and the last half millimetre is settled downwards.
+    fn lever_by_root(self, m: u64) -> u64
+        ensures { (result ≡ unlimited_arm m self.fcu self.d) × (result ≤ self.d) }
+    {
+        let d = self.d;
+        // K / 0.9 is more than 0.25: there is no root. In the middle Z (D - Z) is greatest, and no Z bears M.
+        if 225 * self.fcu * (d * d / 4) < m {
+            return 0;
+        }
+        let root = whole::square_root(d * d - 4 * self.least_product(m));
+        whole::rounded_down(d + root, 2)
+    }
+
+    // Z. Where M is borne at 0.95 D, the root would give no less, and isn't worked out.
+    pub fn lever_arm(self, m: u64) -> u64
+        ensures { (result ≡ lever_arm m self.fcu self.d) × (result ≤ self.d) }
+    {
+        let limit = 19 * self.d / 20;
+        if 225 * self.fcu * limit * (self.d - limit) < m {
+            self.lever_by_root(m)
+        } else {
+            limit
+        }
     }
 }
 
@@ -79,49 +75,56 @@ pub fn needed_area(m: u64, fy: u64, z: u64) -> u64
 }
 
 // A hundredth of a percent of a metre's width is a tenth of a mm: 10 hundredths of mm2 for each mm of thickness. Nothing is rounded.
-fn least_area(section: Section) -> u64
-    requires { Bounded section }
-    ensures { result ≡ least_area section }
+fn least_area(small: Small) -> u64
+    ensures { result ≡ least_area small.section }
 {
-    section.least * section.thickness * 10
+    small.section.least * small.section.thickness * 10
 }
 
 // The area of one bar; 0 for a diameter that no bar has.
+#[tactic(auto, unfolding(rules::specs::ToeAndStem::bar_area, rules::specs::ToeAndStem::besides))]
 fn bar_area(bar: u64) -> u32
     ensures { result ≡ bar_area bar }
 {
-    for i in 0..BARS.len() {
-        if bar == BARS[i] as u64 {
-            return BAR_AREAS[i];
-        }
+    match bar {
+        8 => 5026,
+        10 => 7853,
+        12 => 11309,
+        16 => 20106,
+        20 => 31415,
+        25 => 49087,
+        32 => 80424,
+        40 => 125663,
+        _ => 0,
     }
-    0
 }
 
 // The area of bars at a spacing.
 pub fn provided_area(bar: u64, spacing: u64) -> u64
     ensures { result ≡ provided_area bar spacing }
 {
-    whole::rounded_down(bar_area(bar) as u64 * METRE, spacing)
+    whole::rounded_down(u64::from(bar_area(bar)) * METRE, spacing)
 }
 
 // The area required under a moment, and whether less is provided. Where compression steel would be needed no area is given, and the steel fails.
-pub fn steel_of(section: Section, m: u64) -> Steel
-    requires { Bounded section }
-    ensures { result ≡ steel_under section m }
+pub fn steel_of(small: Small, m: u64) -> Steel
+    ensures { result ≡ steel_under small.section m }
 {
-    let d = twice_depth(section);
-    let fcu = section.concrete;
-    if needs_compression(m, fcu, d) {
+    let section = small.section;
+    let bending = Bending {
+        fcu: section.concrete,
+        d: small.twice_depth(),
+    };
+    if bending.needs_compression(m) {
         return Steel {
             required: 0,
             fails: true,
         };
     }
-    let needed = needed_area(m, section.steel, lever_arm(m, fcu, d));
-    let required = whole::greater(needed, least_area(section));
+    let needed = needed_area(m, section.steel, bending.lever_arm(m));
+    let required = whole::greater(needed, least_area(small));
     Steel {
-        required: required,
+        required,
         fails: provided_area(section.cage.bar, section.cage.spacing) < required,
     }
 }

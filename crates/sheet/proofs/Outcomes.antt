@@ -1,41 +1,35 @@
--- Whether a job is refused, as each entry asks it, and the three ways a calculation ends, with what each leaves in the buffer.
+-- The three ways a calculation ends, with what each leaves in the buffer.
 use Prim.Native.Nat.{◌*◌, ◌<◌, ◌≤◌}
-use mathlib.Core.Path.{◌≡◌, sym, ap, ◌∙◌}
-use mathlib.Core.Bool.{Bool, true, false, not}
+use mathlib.Core.Path.{◌≡◌, ap, ◌∙◌}
+use mathlib.Core.Bool.{true}
 use mathlib.Core.List.{List, ◌++◌}
 use lib.IntN.{ℤ}
 use lib.ListN.{length, drop}
-use borrow.Author.Tests.{not-true, not-false, lt-ltb, le-ltb}
-use Rattle.rules.specs.declared.Answer.{Answer}
-use Rattle.rules.specs.declared.Answer.TheVariants.{Worked, BufferTooShort}
+use borrow.Author.Tests.{lt-ltb, le-ltb}
+use Rattle.std.specs.Prelude.{Ok, Err}
+use Rattle.rules.specs.declared.Refusal.{Refusal}
+use Rattle.rules.specs.declared.Refusal.TheVariants.{BufferTooShort}
 use Rattle.rules.specs.JobFile.{File, wall_count}
-use Rattle.rules.specs.Answered.{is_worked, first_refusal, accepted}
+use Rattle.rules.specs.Answered.{Answer, first_refusal, accepted}
 use Rattle.rules.specs.SheetLine.{line_numbers, sheet, joined, answer_to, buffer_after, Calculates}
 use Rattle.rules.specs.Beyond.{onto}
 use Rattle.sheet.proofs.Sheets.{numbers_length}
 
-module _ {first answer : Answer} {worked : Bool} (found : answer ≡ first) (asked : worked ≡ is_worked answer) where
-  pub refused : not worked ≡ true → is_worked first ≡ false
-  refused test = rw found at (sym asked ∙ not-true worked test)
-
-  pub passed : not worked ≡ false → is_worked first ≡ true
-  passed test = rw found at (sym asked ∙ not-false worked test)
-
 module _ (file : File) (before : List ℤ) where
   -- the job is refused
-  pub job_refused : accepted file ≡ false → Calculates file before (first_refusal file) before
+  pub job_refused : {refusal : Refusal} {answer : Answer} → first_refusal file ≡ Err refusal → answer ≡ Err refusal → Calculates file before answer before
   unfolding answer_to buffer_after
-  job_refused not-worked = record { answered = rw not-worked; holds = rw (not-worked, not-worked) }
+  job_refused refused is = record { answered = is ∙ rw refused; holds = rw refused }
 
   module _ (worked : accepted file ≡ true) where
     -- the buffer is too short
-    pub too_short : length before < line_numbers * wall_count file → Calculates file before BufferTooShort before
+    pub too_short : length before < line_numbers * wall_count file → Calculates file before (Err BufferTooShort) before
     unfolding answer_to buffer_after
     too_short short = let test = lt-ltb (length before) (line_numbers * wall_count file) short in record { answered = rw (worked, test); holds = rw (worked, test) }
 
     -- every line is put
     pub all_worked : {after : List ℤ} → line_numbers * wall_count file ≤ length before → after ≡ onto (joined (sheet file)) before
-        → Calculates file before Worked after
+        → Calculates file before (Ok tt) after
     unfolding answer_to buffer_after onto
     all_worked room put =
         let test = le-ltb (length before) (line_numbers * wall_count file) room in

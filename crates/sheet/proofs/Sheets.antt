@@ -13,11 +13,11 @@ use mir.Val.{SFits}
 use Rattle.whole.proofs.Indexed.{mapped}
 use Rattle.whole.proofs.Integer.{fits_abs}
 use Rattle.whole.proofs.Lists.{All}
-use Rattle.rules.specs.declared.WallLine.{WallLine}
-use Rattle.rules.specs.JobFile.{File, Wall, Load, Entry, most_walls, most_loads_on_wall, wall_count, wall_at, walls, entries, loads_on}
+use Rattle.std.specs.Prelude.{Ok}
+use Rattle.rules.specs.JobFile.{File, Wall, Load, Entry, most_loads_on_wall, wall_count, wall_at, walls, entries, loads_on}
 use Rattle.rules.specs.Answered.{accepted}
 use Rattle.rules.specs.SheetLine.{line_numbers, numbers_by, line, lines_from, sheet, joined, line_text}
-use Rattle.rules.specs.Beyond.{worked_bearing, bearing_of, line_of, line_room, fitting, Put}
+use Rattle.rules.specs.Beyond.{onto, worked_bearing, bearing_of, line_of, line_room, fitting, Put}
 use Rattle.rules.proofs.AcceptedFile.{walls_length, wall_at_lem, wall_count_lem}
 use Rattle.rules.proofs.Examined.{fit, wall_of_file}
 use Rattle.rules.proofs.Fitting.{put_whole}
@@ -27,7 +27,9 @@ use Rattle.rules.proofs.Absent.{borne_with, line_with}
 use Rattle.job.specs.Places.{place_table, loads_at}
 use Rattle.job.proofs.PlacesOfLoads.{absent, rows_of_wall, room_for_rows}
 use Rattle.text.proofs.Lengths.{line_most}
-use Rattle.rules.proofs.Pieces.{joined_length}
+use Rattle.rules.proofs.Putting.{behind, with_back, behind_is, back_is}
+use Rattle.rules.proofs.Pieces.{Pieced, joined_length, one_further}
+use borrow.Rule.Slice.PartMut.{put_mid}
 
 -- as many as there are walls
 lines_length : (n : ℕ) (there : List Wall) (its : List Entry) → length (lines_from n there its) ≡ length there
@@ -58,24 +60,15 @@ line_from n zero (wall ∷ rest) its h = ap (λ (m : ℕ). line m wall (loads_on
 line_from n (suc i) (wall ∷ rest) its h =
     line_from (suc n) i rest its (omega arith) ∙ ap (λ (m : ℕ). line m (get_or rest i []) (loads_on m its)) (suc-add n i ∙ sym (add-suc n i))
 
--- so many walls of a job that is accepted are passed
-pub record Passing (file : File) (walls i : ℕ) : Type 0 where
-  pub accepts : T (accepted file)
-  pub all : walls ≡ wall_count file
-  pub few : walls ≤ most_walls
-  pub within : i ≤ walls
-
--- at first none, and then one more
-pub none_passed : {file : File} {walls : ℕ} → T (accepted file) → walls ≡ wall_count file → Passing file walls 0
-none_passed {file} t e = record { accepts = t; all = e; few = omega (arith, (wall_count_lem file t).1); within = omega arith }
-
-pub one_passed : {file : File} {walls i : ℕ} → Passing file walls i → i < walls → Passing file walls (i + 1)
-one_passed p h = record { accepts = p.accepts; all = p.all; few = p.few; within = omega arith }
-
--- what the line of the next wall is asked with
-pub next_wall : {file : File} {walls i : ℕ} {places : List (List ℕ)} → Passing file walls i → i < walls → places ≡ place_table (entries file)
-    → T (accepted file) × (i < wall_count file) × (get_or places i [] ≡ get_or (place_table (entries file)) i [])
-next_wall p h e = (p.accepts, omega (arith, p.all), rw e)
+-- the next piece is copied into its part of the buffer
+pub copied : {A : Type 0} {pieces : List (List A)} {before out part : List A} {i at k : ℕ} → Pieced pieces before i at out → i < length pieces → part ≡ get_or pieces i []
+    → length (get_or pieces i []) ≡ k → at + k ≤ length before → Pieced pieces before (i + 1) (at + k) (put_mid at (at + k - at) out part)
+unfolding onto
+copied {A} {pieces} {out = out} {i = i} {at = at} {k = k} so_far here same size room =
+    let piece = get_or pieces i [] in
+    let width : at + k - at ≡ length piece = omega (arith, size) in
+    let there : with_back at out (onto piece (behind at out)) ≡ put_mid at (at + k - at) out piece = rw (back_is at out (onto piece (behind at out)), width, behind_is at out) in
+    rw (same, ← there) (one_further so_far here room (record { counted = sym size; holds = refl }))
 
 -- numbers as small as a line's are of 64 bits
 all_held : (zs : List ℤ) → All (λ z. Small (nat_abs z)) zs → All (SFits w64) zs
@@ -108,16 +101,15 @@ module _ (file : File) (i : ℕ) (h : i < wall_count file) where
         )
 
     -- what is worked of the wall with its row of places is the line
-    pub line_there : (line_of (i + 1) (wall_at file i) (loads_at file (get_or (place_table (entries file)) i []))).numbers ≡ get_or (sheet file) i []
+    pub line_there : line_of (i + 1) (wall_at file i) (loads_at file (get_or (place_table (entries file)) i [])) ≡ Ok (get_or (sheet file) i [])
     line_there =
         let its = loads_on (suc i) (entries file) in
-        ap₂ (λ (n : ℕ) (rows : List Load). (line_of n (wall_at file i) rows).numbers) (add-one i) (rows_of_wall file t i h)
-        ∙ ap (λ (answered : WallLine). answered.numbers)
-        (line_with (wall_at file i) absent its (most_loads_on_wall - length its) (room_for_rows file t i h) (wall_of_file file t i h) (suc i))
-        ∙ sym line_is
+        ap₂ (λ (n : ℕ) (rows : List Load). line_of n (wall_at file i) rows) (add-one i) (rows_of_wall file t i h)
+        ∙ line_with (wall_at file i) absent its (most_loads_on_wall - length its) (room_for_rows file t i h) (wall_of_file file t i h) (suc i)
+        ∙ ap Ok (sym line_is)
 
     -- what bears the wall with that row is what bears it under its own loads, as the absent ones behind them change nothing
-    pub borne_by : bearing_of (wall_at file i) (loads_at file (get_or (place_table (entries file)) i [])) ≡ worked_bearing (wall_at file i) (loads_on (suc i) (entries file))
+    pub borne_by : bearing_of (wall_at file i) (loads_at file (get_or (place_table (entries file)) i [])) ≡ Ok (worked_bearing (wall_at file i) (loads_on (suc i) (entries file)))
     borne_by =
         rw (rows_of_wall file t i h)
         (borne_with (wall_at file i) absent (loads_on (suc i) (entries file)) _ (room_for_rows file t i h) (wall_of_file file t i h))

@@ -45,10 +45,9 @@ pub fn shape_of(pressed: Pressed) -> Shape
 {
     let block = pressed.block;
     let contact = block.contact;
-    let kind = block.kind;
     let toe = in_thousands(pressed.toe as i64);
     let heel = in_thousands(pressed.heel as i64);
-    match kind {
+    match block.kind {
         Kind::Full => Shape::Whole(toe, heel),
         Kind::FromToe => Shape::ToeTriangle(toe, quotient(contact.over, contact.under)),
         Kind::FromHeel => Shape::HeelTriangle(heel, quotient(contact.over, contact.under)),

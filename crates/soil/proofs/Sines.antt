@@ -7,10 +7,15 @@ use Prim.Native.Nat.{ℕ, zero, suc, ◌+◌, ◌-◌, ◌*◌, ◌≤◌, ◌<�
 use native.Mathlib.Omega.{arith}
 use native.Mathlib.Nat.{le_trans, le_antisymm, mul-le-mul_left, mul-le-mul_right}
 use lib.Dec.{T, leb, eqb, leb→le, eqb→eq}
-use lib.ListN.{get_or, get_or-map}
+use lib.ListN.{length, get_or, get_or-map}
+use denote.Bor.{Bor}
+use borrow.Author.Tests.{le-leb, lt-leb}
+use Rattle.std.specs.Prelude.{Option, Some, None}
+use Rattle.std.specs.Option.{option_copied}
+use Rattle.std.specs.Slice.{IsItemAt}
 use Rattle.whole.specs.Rounding.{rounded_up, rounded_down, rounded_nearest}
 use Rattle.whole.proofs.Rounded.{nearest_mono}
-use Rattle.rules.specs.Coefficients.{Bounds, unit, level, tenth, turned_by, turned, million, in_millionths, most_turned, sine}
+use Rattle.rules.specs.Coefficients.{Bounds, unit, level, tenth, turned_by, turned, million, in_millionths, most_turned, sine, sine_of}
 use Rattle.rules.proofs.Accepted.{both}
 
 -- ---- facts, each with a test of it that can be computed
@@ -79,6 +84,15 @@ nearest b = in_millionths b.low_sine
 pub in_table : (sines : List ℕ) → sines ≡ map nearest angles → (n : ℕ) → n ≤ most_turned → get_or sines n 0 ≡ sine n
 unfolding sine rounded_nearest
 in_table sines e n h = ap (λ (l : List ℕ). get_or l n 0) e ∙ get_or-map nearest angles n level ∙ ap nearest (at_angle n h)
+
+-- so what is looked up in it is the sine of an angle, and nothing past its end
+pub looked_up : (sines : List ℕ) → sines ≡ map nearest angles → length sines ≡ suc most_turned
+    → (n : ℕ) (found : Option (Bor ℕ)) → IsItemAt sines n found → option_copied found ≡ sine_of n
+unfolding sine_of
+looked_up sines e long n (Some x) h =
+    let low : n ≤ most_turned = omega (arith, h.3.0, long) in
+    rw (le-leb n most_turned low) (ap Some (h.4 (omega arith) 0 ∙ in_table sines e n low))
+looked_up sines e long n None h = let past : most_turned < n = omega (arith, h.3, long) in rw (lt-leb n most_turned past)
 
 -- ---- the two rules
 
@@ -172,3 +186,9 @@ grows m n h top = subst (λ (k : ℕ). sine m ≤ sine k) {x = m + (n - m)} (ome
 
 pub at_most_one : (n : ℕ) → n ≤ most_turned → sine n ≤ million
 at_most_one n h = rw ends at (grows n most_turned h (omega arith))
+
+-- ---- an angle of the table has a sine, that one
+
+pub known : (n : ℕ) → n ≤ most_turned → sine_of n ≡ Some (sine n)
+unfolding sine_of
+known n h = rw (le-leb n most_turned h)

@@ -5,10 +5,10 @@
 mod table;
 
 ghost use Rattle.std.specs.Prelude.{◌≡◌, ◌≤◌};
-ghost use Rattle.rules.specs.Coefficients.{million, sine_of, at_rest, active, is_soil, coefficients_of};
+ghost use Rattle.rules.specs.Coefficients.{million, at_rest, active, is_soil, coefficients_of};
 
-use rules::{Coefficients, Sine};
-use table::LAST_ANGLE;
+use rules::Coefficients;
+pub use table::sine;
 
 // What a sine of 1 is, in millionths.
 const MILLION: u64 = 1000000;
@@ -20,23 +20,6 @@ const THOUSAND: u64 = 1000;
 const LEAST_SOIL: u16 = 1;
 
 const GREATEST_SOIL: u16 = 450;
-
-// The sine of an angle in millionths; one past the table is refused.
-pub fn sine(angle: u16) -> Sine
-    ensures { result ≡ sine_of angle }
-{
-    if LAST_ANGLE < angle {
-        return Sine {
-            in_range: false,
-            millionths: 0,
-        };
-    }
-    let millionths = table::sine_at(angle);
-    Sine {
-        in_range: true,
-        millionths: millionths,
-    }
-}
 
 // K0 = 1 - sine, in thousandths rounded up.
 fn rest_by(sine: u64) -> u32
@@ -58,26 +41,19 @@ fn active_by(sine: u64) -> u32
 fn is_soil(angle: u16) -> bool
     ensures { result ≡ is_soil angle }
 {
-    LEAST_SOIL <= angle && angle <= GREATEST_SOIL
+    (LEAST_SOIL..=GREATEST_SOIL).contains(&angle)
 }
 
-// The coefficients that an angle gives; one that no soil has is refused.
-pub fn coefficients(angle: u16) -> Coefficients
+// The coefficients that an angle gives; one that no soil has gives none.
+pub fn coefficients(angle: u16) -> Option<Coefficients>
     ensures { result ≡ coefficients_of angle }
 {
     if !is_soil(angle) {
-        return Coefficients {
-            in_range: false,
-            rest: 0,
-            active: 0,
-        };
+        return None;
     }
-    let sine = table::sine_at(angle) as u64;
-    let rest = rest_by(sine);
-    let active = active_by(sine);
-    Coefficients {
-        in_range: true,
-        rest: rest,
-        active: active,
-    }
+    let sine = u64::from(sine(angle)?);
+    Some(Coefficients {
+        rest: rest_by(sine),
+        active: active_by(sine),
+    })
 }

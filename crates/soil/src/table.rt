@@ -1,12 +1,9 @@
 // The table of sines.
-ghost use Rattle.std.specs.Prelude.{◌≡◌, ◌≤◌};
-ghost use Rattle.rules.specs.Coefficients.{million, most_turned, sine};
-
-// The last angle of the table.
-pub const LAST_ANGLE: u16 = 900;
+ghost use Rattle.std.specs.Prelude.{◌≡◌};
+ghost use Rattle.rules.specs.Coefficients.{sine_of};
 
 // The sine of each angle in millionths, rounded to the nearest. A line has the ten angles of a degree.
-const SINES: [u32; LAST_ANGLE as usize + 1] = [
+const SINES: [u32; 901] = [
     0, 1745, 3491, 5236, 6981, 8727, 10472, 12217, 13962, 15707, 17452, 19197, 20942, 22687, 24432,
     26177, 27922, 29666, 31411, 33155, 34899, 36644, 38388, 40132, 41876, 43619, 45363, 47106,
     48850, 50593, 52336, 54079, 55822, 57564, 59306, 61049, 62791, 64532, 66274, 68015, 69756,
@@ -84,10 +81,9 @@ const SINES: [u32; LAST_ANGLE as usize + 1] = [
     999945, 999962, 999976, 999986, 999994, 999998, 1000000,
 ];
 
-// The sine of an angle of the table.
-pub fn sine_at(angle: u16) -> u32
-    requires { angle ≤ most_turned }
-    ensures { (result ≡ sine angle) × (result ≤ million) }
+// The sine of an angle in millionths; one past the table has none.
+pub fn sine(angle: u16) -> Option<u32>
+    ensures { result ≡ sine_of angle }
 {
-    SINES[angle as usize]
+    SINES.get(usize::from(angle)).copied()
 }

@@ -1,27 +1,30 @@
 // The coefficients that a soil's angle gives, each behind its name.
-ghost use Rattle.std.specs.Prelude.{◌≤◌, length};
-ghost use Rattle.rules.specs.Beyond.{Put, line_room};
+ghost use Rattle.text.specs.Placed.{HasRoom, Adds};
+ghost use Rattle.rules.specs.Beyond.{line_room};
 ghost use Rattle.rules.specs.Coefficients.{named_text, refused_text};
 
-use crate::{letters, numbers};
+use crate::letters::Line;
+use rules::Coefficients;
 
-// Both, and the end of the line, at the buffer's start.
-pub fn put_named(rest: u32, active: u32, out: &mut [u8]) -> usize
-    requires { line_room ≤ length out.old }
-    ensures { Put (named_text rest active) out.old result out.new }
-{
-    let rest_name_end = letters::put_word(b"K0 ", 0, out);
-    let rest_end = numbers::put_decimal(rest as u64, rest_name_end, out);
-    let active_name_end = letters::put_word(b" Ka ", rest_end, out);
-    let active_end = numbers::put_decimal(active as u64, active_name_end, out);
-    letters::put_byte(b'\n', active_end, out)
-}
+impl Line<'_> {
+    // Both, and the end of the line.
+    pub fn put_named(&mut self, soil: Coefficients)
+        requires { HasRoom line_room self.old }
+        ensures { Adds line_room (named_text soil.rest soil.active) self.old self.new }
+    {
+        self.put_word(b"K0 ");
+        self.put_decimal(u64::from(soil.rest));
+        self.put_word(b" Ka ");
+        self.put_decimal(u64::from(soil.active));
+        self.put_byte(b'\n');
+    }
 
-// The refusal of an angle, and the end of the line, at the buffer's start.
-pub fn put_refused(out: &mut [u8]) -> usize
-    requires { line_room ≤ length out.old }
-    ensures { Put refused_text out.old result out.new }
-{
-    let end = letters::put_word(b"refused 11 0", 0, out);
-    letters::put_byte(b'\n', end, out)
+    // The refusal of an angle, and the end of the line.
+    pub fn put_refused(&mut self)
+        requires { HasRoom line_room self.old }
+        ensures { Adds line_room refused_text self.old self.new }
+    {
+        self.put_word(b"refused 11 0");
+        self.put_byte(b'\n');
+    }
 }

@@ -1,11 +1,11 @@
-// A drawing's figures, each put at an index of a buffer that has the room: what is answered is the index behind it.
-ghost use Rattle.std.specs.Prelude.{◌≡◌, [], ◌∷◌, ◌+◌, ◌≤◌, length};
+// A drawing's figures, each put behind what is there.
+ghost use Rattle.std.specs.Prelude.{◌≡◌, [], ◌∷◌, ◌≤◌, length};
 ghost use Rattle.std.specs.Float.{binary64};
 ghost use Rattle.std.specs.Float.Ieee.{to_bits};
-ghost use Rattle.text.specs.Placed.{PutAt};
-ghost use Rattle.rules.specs.Beyond.{Put, line_room, shape_name, shape_figures, figures_text, drawn_text};
+ghost use Rattle.text.specs.Placed.{HasRoom, Adds};
+ghost use Rattle.rules.specs.Beyond.{line_room, shape_name, shape_figures, figures_text, drawn_text};
 
-use crate::letters;
+use crate::letters::Line;
 use rules::{Drawn, Shape};
 
 // The bits that stand for what is no number, which no drawing has.
@@ -15,66 +15,68 @@ const NOT_A_NUMBER: u64 = 0x7ff8000000000000;
 fn bits_of(x: f64) -> u64
     ensures { result ≡ to_bits binary64 x }
 {
-    if x != x {
-        return NOT_A_NUMBER;
+    if x.is_nan() {
+        NOT_A_NUMBER
+    } else {
+        x.to_bits()
     }
-    f64::to_bits(x)
 }
 
-// A space, and then a figure's bits in hex.
-fn put_figure(x: f64, at: usize, out: &mut [u8]) -> usize
-    requires { at + 17 ≤ length out.old }
-    ensures { PutAt at 17 (figures_text (x ∷ [])) out.old result out.new }
-{
-    let space_end = letters::put_byte(b' ', at, out);
-    letters::put_hex(16, bits_of(x), space_end, out)
-}
-
-// Two figures.
-fn put_pair(x: f64, y: f64, at: usize, out: &mut [u8]) -> usize
-    requires { at + 34 ≤ length out.old }
-    ensures { PutAt at 34 (figures_text (x ∷ y ∷ [])) out.old result out.new }
-{
-    let first_end = put_figure(x, at, out);
-    put_figure(y, first_end, out)
-}
-
-// The shape's own figures.
-fn put_shape_figures(shape: Shape, at: usize, out: &mut [u8]) -> usize
-    requires { at + 34 ≤ length out.old }
-    ensures { PutAt at 34 (figures_text (shape_figures shape)) out.old result out.new }
+// A shape's name.
+fn name_of(shape: Shape) -> &'static [u8]
+    ensures { (result.now ≡ shape_name shape) × (length result.now ≤ 7) }
 {
     match shape {
-        Shape::Whole(toe, heel) => put_pair(toe, heel, at, out),
-        Shape::ToeTriangle(peak, contact) => put_pair(peak, contact, at, out),
-        Shape::HeelTriangle(peak, contact) => put_pair(peak, contact, at, out),
-        Shape::Nothing => at,
+        Shape::Whole(_, _) => b"whole",
+        Shape::ToeTriangle(_, _) => b"toe",
+        Shape::HeelTriangle(_, _) => b"heel",
+        Shape::Nothing => b"nothing",
     }
 }
 
-// The shape's name, at the buffer's start.
-fn put_name(shape: Shape, out: &mut [u8]) -> usize
-    requires { 7 ≤ length out.old }
-    ensures { PutAt 0 7 (shape_name shape) out.old result out.new }
-{
-    match shape {
-        Shape::Whole(_, _) => letters::put_word(b"whole", 0, out),
-        Shape::ToeTriangle(_, _) => letters::put_word(b"toe", 0, out),
-        Shape::HeelTriangle(_, _) => letters::put_word(b"heel", 0, out),
-        Shape::Nothing => letters::put_word(b"nothing", 0, out),
+impl Line<'_> {
+    // A space, and then a figure's bits in hex.
+    fn put_figure(&mut self, x: f64)
+        requires { HasRoom 17 self.old }
+        ensures { Adds 17 (figures_text (x ∷ [])) self.old self.new }
+    {
+        self.put_byte(b' ');
+        self.put_hex(16, bits_of(x));
     }
-}
 
-// The whole drawing: the name, the drawing record's figures, the shape's, and the end of the line.
-pub fn put_drawn(drawn: Drawn, out: &mut [u8]) -> usize
-    requires { line_room ≤ length out.old }
-    ensures { Put (drawn_text drawn) out.old result out.new }
-{
-    let drawing = drawn.drawing;
-    let shape = drawn.shape;
-    let name_end = put_name(shape, out);
-    let forces_end = put_pair(drawing.R, drawing.H, name_end, out);
-    let distance_end = put_figure(drawing.distance, forces_end, out);
-    let figures_end = put_shape_figures(shape, distance_end, out);
-    letters::put_byte(b'\n', figures_end, out)
+    // Two figures.
+    fn put_pair(&mut self, x: f64, y: f64)
+        requires { HasRoom 34 self.old }
+        ensures { Adds 34 (figures_text (x ∷ y ∷ [])) self.old self.new }
+    {
+        self.put_figure(x);
+        self.put_figure(y);
+    }
+
+    // The shape's own figures.
+    fn put_shape_figures(&mut self, shape: Shape)
+        requires { HasRoom 34 self.old }
+        ensures { Adds 34 (figures_text (shape_figures shape)) self.old self.new }
+    {
+        match shape {
+            Shape::Whole(first, second)
+            | Shape::ToeTriangle(first, second)
+            | Shape::HeelTriangle(first, second) => self.put_pair(first, second),
+            Shape::Nothing => {}
+        }
+    }
+
+    // The whole drawing: the name, the drawing record's figures, the shape's, and the end of the line.
+    pub fn put_drawn(&mut self, drawn: Drawn)
+        requires { HasRoom line_room self.old }
+        ensures { Adds line_room (drawn_text drawn) self.old self.new }
+    {
+        let drawing = drawn.drawing;
+        let shape = drawn.shape;
+        self.put_word(name_of(shape));
+        self.put_pair(drawing.R, drawing.H);
+        self.put_figure(drawing.distance);
+        self.put_shape_figures(shape);
+        self.put_byte(b'\n');
+    }
 }

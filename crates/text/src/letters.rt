@@ -1,27 +1,55 @@
-// The letters that every printed text is made of, each put at an index of a buffer that has the room: what is answered is the index behind it.
-ghost use Rattle.std.specs.Prelude.{◌≡◌, [], ◌∷◌, ◌+◌, ◌≤◌, ◌<◌, length};
-ghost use Rattle.text.specs.Placed.{PutAt};
+// A line as it is put into a lent buffer, and the letters that every line is made of. Each part is put behind those that are there, where the buffer has the room.
+ghost use Rattle.std.specs.Prelude.{◌≡◌, [], ◌∷◌, ◌≤◌, ◌<◌, length};
+ghost use Rattle.text.specs.Placed.{HasRoom, Adds};
 ghost use Rattle.rules.specs.SheetLine.{hex_digit, hex_digits};
 
-// One byte.
-pub fn put_byte(byte: u8, at: usize, out: &mut [u8]) -> usize
-    requires { at + 1 ≤ length out.old }
-    ensures { PutAt at 1 (byte ∷ []) out.old result out.new }
-{
-    out[at] = byte;
-    at + 1
+// The buffer that is lent, and how many of its bytes are used.
+#[derive(Drop)]
+pub struct Line<'a> {
+    out: &'a mut [u8],
+    pub used: usize,
 }
 
-// A word.
-pub fn put_word(word: &[u8], at: usize, out: &mut [u8]) -> usize
-    requires { at + length word.now ≤ length out.old }
-    ensures { PutAt at (length word.now) word.now out.old result out.new }
-{
-    let mut next = at;
-    for i in 0..word.len() {
-        next = put_byte(word[i], next, out);
+impl<'a> Line<'a> {
+    // A line with nothing in it yet.
+    pub fn new(out: &'a mut [u8]) -> Line<'a>
+        ensures same_buffer { result.out.ghost_name ≡ out.entry.ghost_name }
+        ensures as_it_was { result.out.now ≡ out.old }
+        ensures unused { result.used ≡ 0 }
+    {
+        Line { out, used: 0 }
     }
-    next
+
+    // One byte.
+    pub fn put_byte(&mut self, byte: u8)
+        requires { HasRoom 1 self.old }
+        ensures { Adds 1 (byte ∷ []) self.old self.new }
+    {
+        self.out[self.used] = byte;
+        self.used += 1;
+    }
+
+    // A word.
+    pub fn put_word(&mut self, word: &[u8])
+        requires { HasRoom (length word.now) self.old }
+        ensures { Adds (length word.now) word.now self.old self.new }
+    {
+        let end = self.used + word.len();
+        self.out[self.used..end].copy_from_slice(word);
+        self.used = end;
+    }
+
+    // The last so many hex digits of a number: those of its sixteenth, and then the last one.
+    pub fn put_hex(&mut self, places: usize, n: u64)
+        requires { HasRoom places self.old }
+        ensures { Adds places (hex_digits places n) self.old self.new }
+    {
+        if places == 0 {
+            return;
+        }
+        self.put_hex(places - 1, n / 16);
+        self.put_byte(hex_digit(n % 16));
+    }
 }
 
 // 0 to 9 and a to f.
@@ -30,19 +58,8 @@ fn hex_digit(n: u64) -> u8
     ensures { result ≡ hex_digit n }
 {
     if n < 10 {
-        return b'0' + n as u8;
+        b'0' + n as u8
+    } else {
+        b'a' + (n - 10) as u8
     }
-    b'a' + (n - 10) as u8
-}
-
-// The last so many hex digits of a number: those of its sixteenth, and then the last one.
-pub fn put_hex(places: usize, n: u64, at: usize, out: &mut [u8]) -> usize
-    requires { at + places ≤ length out.old }
-    ensures { PutAt at places (hex_digits places n) out.old result out.new }
-{
-    if places == 0 {
-        return at;
-    }
-    let next = put_hex(places - 1, n / 16, at, out);
-    put_byte(hex_digit(n % 16), next, out)
 }

@@ -11,7 +11,8 @@ ghost use Rattle.rules.specs.SheetLine.{line_text, refusal_text};
 ghost use Rattle.rules.specs.Beyond.{Put, fitting, line_room, drawing_text};
 ghost use Rattle.rules.specs.Coefficients.{coefficients_text};
 
-use rules::{Answer, Coefficients, Drawn, LINE, LineNumbers};
+use letters::Line;
+use rules::{Answer, Coefficients, Drawn, LINE, LineNumbers, Refusal};
 
 // A number has at most a sign and 19 digits, and behind it a space or the end of the line.
 const NUMBER_ROOM: usize = 21;
@@ -26,9 +27,11 @@ pub fn line_text(numbers: LineNumbers, out: &mut [u8]) -> usize
     if out.len() < LINE_ROOM {
         return 0;
     }
-    let number_end = numbers::put_signed(numbers[0], 0, out);
-    let failures_end = numbers::put_failures(numbers[1], number_end, out);
-    numbers::put_rest(numbers, failures_end, out)
+    let mut line = Line::new(out);
+    line.put_signed(numbers[0]);
+    line.put_failures(numbers[1]);
+    line.put_rest(&numbers[2..]);
+    line.used
 }
 
 // The text of a refusal: the word, its number and its place; and how many bytes it took.
@@ -38,37 +41,41 @@ pub fn refusal_text(answer: Answer, out: &mut [u8]) -> usize
     if out.len() < LINE_ROOM {
         return 0;
     }
-    let number = reply::number_of(answer) as i64;
-    let place = reply::place_of(answer) as i64;
-    let word_end = letters::put_word(b"refused", 0, out);
-    let number_end = numbers::put_spaced(number, word_end, out);
-    let place_end = numbers::put_spaced(place, number_end, out);
-    letters::put_byte(b'\n', place_end, out)
+    let mut line = Line::new(out);
+    line.put_word(b"refused");
+    line.put_spaced(i64::from(reply::number_of(answer)));
+    line.put_spaced(i64::from(reply::place_of(answer)));
+    line.put_byte(b'\n');
+    line.used
 }
 
 // The text of a drawing, the name of its shape and every figure's bits in hex, or of its refusal; and how many bytes it took.
-pub fn drawing_text(drawn: Drawn, out: &mut [u8]) -> usize
+pub fn drawing_text(drawn: Result<Drawn, Refusal>, out: &mut [u8]) -> usize
     ensures { Put (fitting line_room (drawing_text drawn) out.old) out.old result out.new }
 {
     if out.len() < LINE_ROOM {
         return 0;
     }
-    let answer = drawn.answer;
-    if !reply::is_worked(answer) {
-        return refusal_text(answer, out);
-    }
-    figures::put_drawn(drawn, out)
+    let drawn = match drawn {
+        Ok(drawn) => drawn,
+        Err(refusal) => return refusal_text(Err(refusal), out),
+    };
+    let mut line = Line::new(out);
+    line.put_drawn(drawn);
+    line.used
 }
 
 // The text of a soil's coefficients, each behind its name, or of their refusal; and how many bytes it took.
-pub fn coefficients_text(soil: Coefficients, out: &mut [u8]) -> usize
+pub fn coefficients_text(soil: Option<Coefficients>, out: &mut [u8]) -> usize
     ensures { Put (fitting line_room (coefficients_text soil) out.old) out.old result out.new }
 {
     if out.len() < LINE_ROOM {
         return 0;
     }
-    if !soil.in_range {
-        return coefficients::put_refused(out);
+    let mut line = Line::new(out);
+    match soil {
+        Some(coefficients) => line.put_named(coefficients),
+        None => line.put_refused(),
     }
-    coefficients::put_named(soil.rest, soil.active, out)
+    line.used
 }

@@ -13,7 +13,7 @@ use Rattle.rules.specs.JobFile.{Wall, toe_length, base_length}
 use Rattle.rules.specs.Bearing.{factored_scale, greatest_peak, is_given_kind}
 use Rattle.rules.specs.ToeAndStem.{scaled, twice_arm, straight, plain, ended_shear, ended_moment, begun_shear, begun_moment, in_newtons, ended_bearing, begun_bearing, bearing_by}
 use Rattle.rules.proofs.Pressures.{Reaches, Touches, touches, reports, reported_most}
-use Rattle.wall.specs.Working.{Bears, fraction, begins, Contact, Stands}
+use Rattle.wall.specs.Working.{Bears, fraction, begins, Contact}
 
 -- ---- a contact
 
@@ -22,10 +22,6 @@ exact (touches hp hq within) = refl
 
 pub reaching : {l : ℕ} {c : Fraction} → Reaches c → Touches l c → Contact (above_zero c.over) (above_zero c.under)
 reaching r (touches hp hq within) = record { over_some = hp; under_some = hq; over_most = r.over_most; under_most = r.under_most }
-
-stood : {l peak : ℕ} {c : Fraction} → peak ≤ greatest_peak → Reaches c → Touches l c → Stands peak (above_zero c.over) (above_zero c.under)
-stood most r (touches hp hq within) =
-    record { peak_most = most; contact = reaching r (touches hp hq within) }
 
 based : {l : ℕ} {c : Fraction} → Touches l c → above_zero c.over ≤ l * above_zero c.under
 based (touches hp hq within) = within
@@ -42,10 +38,12 @@ module _ {wall : Wall} {pressed : Pressed} (bears : Bears wall pressed) {p q : �
 
   -- a triangle from the toe: its peak stands on it; it ends before the stem's middle, or reaches that
   module _ (told : pressed.block.kind ≡ FromToe) where
-    pub toe_stands : Stands pressed.toe p q
-    toe_stands =
-        rw (over, under)
-        (stood (rw (reports factored_scale bears.reports).0 (reported_most bears.pressable).0) bears.pressable.contact (touching told tt))
+    pub toe_stands : (pressed.toe ≤ greatest_peak) × Contact p q × (p ≤ base_length wall * q)
+    toe_stands = (
+      rw (reports factored_scale bears.reports).0 (reported_most bears.pressable).0,
+      rw (over, under) (reaching bears.pressable.contact (touching told tt)),
+      rw (over, under) (based (touching told tt)),
+    )
 
     pub ended : p * 2 < twice_arm wall * q → bearing_by FromToe wall pressed.block ≡ ended_bearing wall pressed.toe (fraction p q)
     unfolding bearing_by
@@ -57,13 +55,12 @@ module _ {wall : Wall} {pressed : Pressed} (bears : Bears wall pressed) {p q : �
 
   -- one from the heel
   module _ (told : pressed.block.kind ≡ FromHeel) where
-    pub heel_stands : Stands pressed.heel p q
-    heel_stands =
-        rw (over, under)
-        (stood (rw (reports factored_scale bears.reports).1 (reported_most bears.pressable).1) bears.pressable.contact (touching told tt))
-
-    pub on_base : {l : ℕ} → l ≡ base_length wall → p ≤ l * q
-    on_base long = rw (long, over, under) (based (touching told tt))
+    pub heel_stands : (pressed.heel ≤ greatest_peak) × Contact p q × (p ≤ base_length wall * q)
+    heel_stands = (
+      rw (reports factored_scale bears.reports).1 (reported_most bears.pressable).1,
+      rw (over, under) (reaching bears.pressable.contact (touching told tt)),
+      rw (over, under) (based (touching told tt)),
+    )
 
     pub begun : bearing_by FromHeel wall pressed.block ≡ begun_bearing wall pressed.heel (fraction p q)
     unfolding bearing_by

@@ -1,1 +1,2 @@
+pub mod Triangle
 pub mod Working

@@ -34,16 +34,12 @@ fraction over under = record { over = pos over; under = pos under }
 abbrev pub begins : ℕ → ℕ → ℕ → Fraction
 begins l over under = minus (plain l) (fraction over under)
 
--- a triangle's contact, over and under, with which its bearing can be worked; and with its reported peak
+-- a triangle's contact, over and under, with which its bearing can be worked
 pub record Contact (over under : ℕ) : Type 0 where
   pub over_some : 0 < over
   pub under_some : 0 < under
   pub over_most : over ≤ 2 * heaviest_factored * longest
   pub under_most : under ≤ 2 * heaviest_factored
-
-pub record Stands (peak over under : ℕ) : Type 0 where
-  pub peak_most : peak ≤ greatest_peak
-  pub contact : Contact over under
 
 -- a full block's two ends, of which l^2 make a tenth of a kN/m2: neither is above the greatest peak
 pub record Ends (l toe heel : ℕ) : Type 0 where

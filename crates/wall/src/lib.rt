@@ -1,10 +1,11 @@
 // Document 01, "The sheet line": one wall under its loads, worked to the nineteen numbers of its line.
 #![tactic(auto)]
 
+mod fitting;
 mod heel;
 mod members;
-mod pressure;
 mod toe;
+mod trapezium;
 mod triangle;
 
 ghost use Rattle.std.specs.Prelude.{◌≡◌, T, nat_abs};
@@ -16,39 +17,51 @@ ghost use Rattle.rules.specs.Beyond.{line_of};
 ghost use Rattle.rules.proofs.Sizes.{Small};
 ghost use Rattle.wall.specs.Working.{Bears, worked_over};
 
+use fitting::Fitting;
+use heel::Heel;
 use record::{Loads, Wall};
-use rules::{Borne, LINE, LineNumbers, WallLine, WorkedWall};
+use rules::{Borne, LineNumbers, Refusal, WorkedWall};
+use toe::Toe;
 
-// To what bears a wall that fits come its toe, its stem and its heel.
+// A wall that fits, worked: what bears it, and its toe, its stem and its heel.
+#[tactic(auto, unfolding(crate::specs::Working::worked_over))]
 fn worked(wall: Wall, borne: Borne) -> WorkedWall
     requires { T (wall_fits wall) × Bears wall borne.factored × (borne.forces.fill ≡ fill_on_heel wall) }
     ensures { result ≡ worked_over wall borne }
 {
     let forces = borne.forces;
-    let totals = forces.service;
-    let sliding = forces.sliding;
-    let service = borne.service;
     let factored = borne.factored;
+    let fitting = Fitting { fields: wall };
+    let toe = Toe {
+        wall: fitting,
+        pressed: factored,
+    };
+    let heel = Heel {
+        wall: fitting,
+        fill: forces.fill,
+        block: factored.block,
+    };
     WorkedWall {
-        totals: totals,
-        sliding: sliding,
-        service: service,
-        factored: factored,
-        toe: members::toe_over(wall, factored),
-        stem: members::stem_under(wall, forces.stem),
-        heel: members::heel_over(wall, forces.fill, factored.block),
+        totals: forces.service,
+        sliding: forces.sliding,
+        service: borne.service,
+        factored,
+        toe: members::toe_over(&toe),
+        stem: members::stem_under(&fitting, forces.stem),
+        heel: members::heel_over(&heel),
     }
 }
 
 // The numbers of a line, in its order.
+#[tactic(auto, unfolding(rules::specs::SheetLine::numbers_by))]
 fn numbers_of(number: u32, wall: Wall, worked: WorkedWall) -> LineNumbers
     requires { All (λ z. Small (nat_abs z)) (numbers_by number wall worked) }
     ensures { result ≡ numbers_by number wall worked }
 {
     let failures = checks::failures_of(wall, worked);
     [
-        number as i64,
-        failures as i64,
+        i64::from(number),
+        i64::from(failures),
         worked.totals.R,
         worked.totals.H,
         worked.sliding.propping as i64,
@@ -70,21 +83,10 @@ fn numbers_of(number: u32, wall: Wall, worked: WorkedWall) -> LineNumbers
 }
 
 // The line of a wall under its loads, with the number that it is given. An absent load is a row of zeros. Where the wall or a load is out of
-// range the answer is the refusal that a file of just these would get, so that the wall is number 1 there, and every number of the line is 0.
-pub fn line(number: u32, wall: Wall, loads: Loads) -> WallLine
+// range there is no line, but the refusal that a file of just these would get, so that the wall is number 1 there.
+pub fn line(number: u32, wall: Wall, loads: Loads) -> Result<LineNumbers, Refusal>
     ensures { result ≡ line_of number wall loads }
 {
-    let borne = bearing::blocks(wall, loads);
-    let forces = borne.forces;
-    let answer = forces.answer;
-    if !reply::is_worked(answer) {
-        return WallLine {
-            answer: answer,
-            numbers: [0i64; LINE],
-        };
-    }
-    WallLine {
-        answer: answer,
-        numbers: numbers_of(number, wall, worked(wall, borne)),
-    }
+    let borne = bearing::blocks(wall, loads)?;
+    Ok(numbers_of(number, wall, worked(wall, borne)))
 }

@@ -1,10 +1,11 @@
 -- Lists by their indices: what stands at an index of joined and of mapped lists, and an array that is filled up to an index. Assumes nothing.
 use mathlib.Core.Path.{◌≡◌, refl, sym, ◌∙◌}
-use mathlib.Core.List.{List, [], ◌∷◌, ◌++◌, map}
-use Prim.Native.Nat.{ℕ, zero, suc, ◌+◌, ◌≤◌, ◌<◌}
+use mathlib.Core.List.{List, ◌++◌, map}
+use Prim.Native.Nat.{ℕ, ◌+◌, ◌≤◌, ◌<◌}
 use native.Mathlib.Omega.{arith}
 use native.Mathlib.Numerals.{add-one}
 use lib.ListN.{length, get_or, take, set, length-append, length-map, length-set}
+use Rattle.std.proofs.lemmas.List.{get_or-map}
 use lib.Seq.{take_all, take-suc, take-suc-set, get_or-append-add}
 
 module _ {A : Type 0} where
@@ -15,9 +16,7 @@ module _ {A : Type 0} where
 
   -- of a mapped list that which the other list has there is mapped
   pub mapped : {B : Type 0} (f : B → A) (xs : List B) (i : ℕ) (d : A) (e : B) → i < length xs → get_or (map f xs) i d ≡ f (get_or xs i e)
-  mapped f [] i d e h = absurd (omega arith)
-  mapped f (x ∷ xs) zero d e h = refl
-  mapped f (x ∷ xs) (suc i) d e h = mapped f xs i d e (omega arith)
+  mapped f xs i d e h = get_or-map f xs i e d h
 
   -- a list of m, and behind it one of n, mapped in one way and then in another
   module _ {B : Type 0} (first : List A) (f g : B → A) (xs : List B) (m n : ℕ) (before : length first ≡ m) (there : length xs ≡ n) where

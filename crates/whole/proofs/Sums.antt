@@ -5,11 +5,12 @@ use mathlib.Core.Logic.{⊎_elim}
 use Prim.Native.Nat.{ℕ, zero, suc, ◌+◌, ◌*◌, ◌≤◌, ◌<◌}
 use native.Mathlib.Nat.{add-zero, add-suc, eq-or-lt_of_le}
 use native.Mathlib.Omega.{arith}
-use lib.IntN.{ℤ, pos, nat_abs, ◌+ℤ◌, ◌-ℤ◌, ◌*ℤ◌, +ℤ_assoc, +ℤ_comm, +ℤ_idl, +ℤ_idr, *ℤ-zero, ℤ_set}
+use Rattle.std.proofs.lemmas.Int.{ints}
+use lib.IntN.{ℤ, pos, nat_abs, ◌+ℤ◌, ◌-ℤ◌, ◌*ℤ◌, +ℤ_assoc, +ℤ_comm, *ℤ-zero, ℤ_set}
 use lib.ListN.{get_or, length}
 use lib.Signed.{◌≤ℤ◌, ◌<ℤ◌, ≤ℤ_refl}
 use Rattle.whole.specs.Sum.{sum_to, sum_of}
-use Rattle.whole.proofs.Integer.{*ℤ-+ℤ, +ℤ-swap, sub_swap, +ℤ-mono-≤ℤ, +ℤ-mono-<ℤ, abs_add}
+use Rattle.whole.proofs.Integer.{*ℤ-+ℤ, abs_add}
 
 -- ---- over indices
 -- equal terms give equal sums
@@ -22,12 +23,12 @@ sum_to_same f g (suc n) h = cc (sum_to_same f g n (λ i k. h i (omega arith)), h
 pub sum_to_add : (f g : ℕ → ℤ) (n : ℕ) → sum_to (λ i. f i +ℤ g i) n ≡ sum_to f n +ℤ sum_to g n
 unfolding sum_to
 sum_to_add f g zero = refl
-sum_to_add f g (suc n) = ap (λ z. z +ℤ (f n +ℤ g n)) (sum_to_add f g n) ∙ +ℤ-swap (sum_to f n) (sum_to g n) (f n) (g n)
+sum_to_add f g (suc n) = omega (arith, ints, sum_to_add f g n)
 
 pub sum_to_sub : (f g : ℕ → ℤ) (n : ℕ) → sum_to (λ i. f i -ℤ g i) n ≡ sum_to f n -ℤ sum_to g n
 unfolding sum_to
 sum_to_sub f g zero = refl
-sum_to_sub f g (suc n) = ap (λ z. z +ℤ (f n -ℤ g n)) (sum_to_sub f g n) ∙ sym (sub_swap (sum_to f n) (f n) (sum_to g n) (g n))
+sum_to_sub f g (suc n) = omega (arith, ints, sum_to_sub f g n)
 
 -- a factor that is the same in every term comes out
 pub sum_to_factor : (k : ℤ) (f : ℕ → ℤ) (n : ℕ) → sum_to (λ i. k *ℤ f i) n ≡ k *ℤ sum_to f n
@@ -44,8 +45,8 @@ sum_to_zeros f (suc n) h = cc (sum_to_zeros f n (λ i k. h i (omega arith)), h n
 -- the indices below m + n are those below m, and then n more
 pub sum_to_joined : (f : ℕ → ℤ) (m n : ℕ) → sum_to f (m + n) ≡ sum_to f m +ℤ sum_to (λ i. f (m + i)) n
 unfolding sum_to
-sum_to_joined f m zero = rw add-zero (sym (+ℤ_idr (sum_to f m)))
-sum_to_joined f m (suc n) = rw add-suc (ap (λ z. z +ℤ f (m + n)) (sum_to_joined f m n) ∙ +ℤ_assoc (sum_to f m) (sum_to (λ i. f (m + i)) n) (f (m + n)))
+sum_to_joined f m zero = rw add-zero (omega (arith, ints))
+sum_to_joined f m (suc n) = rw add-suc (omega (arith, ints, sum_to_joined f m n))
 
 -- a bound of every term, n times over, bounds the sum
 pub sum_to_abs : (f : ℕ → ℤ) {b : ℕ} (n : ℕ) → ((i : ℕ) → i < n → nat_abs (f i) ≤ b) → nat_abs (sum_to f n) ≤ n * b
@@ -57,12 +58,12 @@ sum_to_abs f (suc n) h = omega (arith, abs_add (sum_to f n) (f n), sum_to_abs f 
 pub sum_to_mono : (f g : ℕ → ℤ) (n : ℕ) → ((i : ℕ) → i < n → f i ≤ℤ g i) → sum_to f n ≤ℤ sum_to g n
 unfolding sum_to
 sum_to_mono f g zero h = ≤ℤ_refl (pos 0)
-sum_to_mono f g (suc n) h = +ℤ-mono-≤ℤ (sum_to_mono f g n (λ i k. h i (omega arith))) (h n (omega arith))
+sum_to_mono f g (suc n) h = omega (arith, ints, sum_to_mono f g n (λ i k. h i (omega arith)), h n (omega arith))
 
 pub sum_to_nonneg : (f : ℕ → ℤ) (n : ℕ) → ((i : ℕ) → i < n → pos 0 ≤ℤ f i) → pos 0 ≤ℤ sum_to f n
 unfolding sum_to
 sum_to_nonneg f zero h = ≤ℤ_refl (pos 0)
-sum_to_nonneg f (suc n) h = +ℤ-mono-≤ℤ (sum_to_nonneg f n (λ i k. h i (omega arith))) (h n (omega arith))
+sum_to_nonneg f (suc n) h = omega (arith, ints, sum_to_nonneg f n (λ i k. h i (omega arith)), h n (omega arith))
 
 -- where besides one term is less, the sum is less
 pub sum_to_less : (f g : ℕ → ℤ) (n k : ℕ) → ((i : ℕ) → i < n → f i ≤ℤ g i) → k < n → f k <ℤ g k → sum_to f n <ℤ sum_to g n
@@ -70,16 +71,15 @@ unfolding sum_to
 sum_to_less f g zero k h below less = absurd (omega arith)
 sum_to_less f g (suc n) k h below less =
     ⊎_elim
-    (λ (e : suc k ≡ suc n). rw (+ℤ_comm (sum_to f n) (f n), +ℤ_comm (sum_to g n) (g n))
-    (+ℤ-mono-<ℤ (let same : k ≡ n = omega arith in rw same at less) (sum_to_mono f g n (λ i l. h i (omega arith)))))
-    (λ (l : suc k < suc n). +ℤ-mono-<ℤ (sum_to_less f g n k (λ i l. h i (omega arith)) (omega arith) less) (h n (omega arith)))
+    (λ (e : suc k ≡ suc n). let same : k ≡ n = omega arith in omega (arith, ints, rw same at less, sum_to_mono f g n (λ i l. h i (omega arith))))
+    (λ (l : suc k < suc n). omega (arith, ints, sum_to_less f g n k (λ i l. h i (omega arith)) (omega arith) less, h n (omega arith)))
     (eq-or-lt_of_le below)
 
 -- the first term apart, where the definition takes the last
 pub sum_to_first : (f : ℕ → ℤ) (n : ℕ) → sum_to f (suc n) ≡ f 0 +ℤ sum_to (λ i. f (suc i)) n
 unfolding sum_to
-sum_to_first f zero = +ℤ_comm (pos 0) (f 0)
-sum_to_first f (suc n) = ap (λ z. z +ℤ f (suc n)) (sum_to_first f n) ∙ +ℤ_assoc (f 0) (sum_to (λ i. f (suc i)) n) (f (suc n))
+sum_to_first f zero = omega (arith, ints)
+sum_to_first f (suc n) = omega (arith, ints, sum_to_first f n)
 
 -- ---- over a list: the same laws
 module _ {A : Type 0} where
@@ -91,12 +91,12 @@ module _ {A : Type 0} where
   pub sum_of_add : (f g : A → ℤ) (xs : List A) → sum_of (λ x. f x +ℤ g x) xs ≡ sum_of f xs +ℤ sum_of g xs
   unfolding sum_of
   sum_of_add f g [] = refl
-  sum_of_add f g (x ∷ xs) = ap (λ z. f x +ℤ g x +ℤ z) (sum_of_add f g xs) ∙ +ℤ-swap (f x) (g x) (sum_of f xs) (sum_of g xs)
+  sum_of_add f g (x ∷ xs) = omega (arith, ints, sum_of_add f g xs)
 
   pub sum_of_sub : (f g : A → ℤ) (xs : List A) → sum_of (λ x. f x -ℤ g x) xs ≡ sum_of f xs -ℤ sum_of g xs
   unfolding sum_of
   sum_of_sub f g [] = refl
-  sum_of_sub f g (x ∷ xs) = ap (λ z. f x -ℤ g x +ℤ z) (sum_of_sub f g xs) ∙ sym (sub_swap (f x) (sum_of f xs) (g x) (sum_of g xs))
+  sum_of_sub f g (x ∷ xs) = omega (arith, ints, sum_of_sub f g xs)
 
   pub sum_of_factor : (k : ℤ) (f : A → ℤ) (xs : List A) → sum_of (λ x. k *ℤ f x) xs ≡ k *ℤ sum_of f xs
   unfolding sum_of
@@ -110,8 +110,8 @@ module _ {A : Type 0} where
 
   pub sum_of_joined : (f : A → ℤ) (xs ys : List A) → sum_of f (xs ++ ys) ≡ sum_of f xs +ℤ sum_of f ys
   unfolding sum_of
-  sum_of_joined f [] ys = sym (+ℤ_idl (sum_of f ys))
-  sum_of_joined f (x ∷ xs) ys = ap (λ z. f x +ℤ z) (sum_of_joined f xs ys) ∙ sym (+ℤ_assoc (f x) (sum_of f xs) (sum_of f ys))
+  sum_of_joined f [] ys = omega (arith, ints)
+  sum_of_joined f (x ∷ xs) ys = omega (arith, ints, sum_of_joined f xs ys)
 
   pub sum_of_map : {B : Type 0} (f : A → ℤ) (g : B → A) (xs : List B) → sum_of f (map g xs) ≡ sum_of (λ x. f (g x)) xs
   unfolding sum_of
@@ -137,12 +137,12 @@ module _ {A : Type 0} where
   pub sum_of_mono : (f g : A → ℤ) (xs : List A) → ((x : A) → f x ≤ℤ g x) → sum_of f xs ≤ℤ sum_of g xs
   unfolding sum_of
   sum_of_mono f g [] h = ≤ℤ_refl (pos 0)
-  sum_of_mono f g (x ∷ xs) h = +ℤ-mono-≤ℤ (h x) (sum_of_mono f g xs h)
+  sum_of_mono f g (x ∷ xs) h = omega (arith, ints, h x, sum_of_mono f g xs h)
 
   pub sum_of_nonneg : (f : A → ℤ) (xs : List A) → ((x : A) → pos 0 ≤ℤ f x) → pos 0 ≤ℤ sum_of f xs
   unfolding sum_of
   sum_of_nonneg f [] h = ≤ℤ_refl (pos 0)
-  sum_of_nonneg f (x ∷ xs) h = +ℤ-mono-≤ℤ (h x) (sum_of_nonneg f xs h)
+  sum_of_nonneg f (x ∷ xs) h = omega (arith, ints, h x, sum_of_nonneg f xs h)
 
   -- a list's sum is that of its elements by their indices; d is never reached
   pub sum_of_sum_to : (f : A → ℤ) (d : A) (xs : List A) → sum_of f xs ≡ sum_to (λ i. f (get_or xs i d)) (length xs)

@@ -9,13 +9,7 @@ ghost use Rattle.whole.specs.Rounding.{rounded_up, rounded_down, rounded_nearest
 pub fn rounded_up(a: u64, b: u64) -> u64
     ensures { result ≡ rounded_up a b }
 {
-    if b == 0 {
-        0
-    } else if a % b == 0 {
-        a / b
-    } else {
-        a / b + 1
-    }
+    if b == 0 { 0 } else { a.div_ceil(b) }
 }
 
 // a / b, rounded down: the quotient alone. By 0 it is 0.
@@ -42,21 +36,21 @@ pub fn rounded_nearest(a: u64, b: u64) -> u64
 pub fn greater(a: u64, b: u64) -> u64
     ensures { result ≡ max a b }
 {
-    if a < b { b } else { a }
+    a.max(b)
 }
 
 // How far a lies above b; 0 where it doesn't.
 pub fn excess(a: u64, b: u64) -> u64
     ensures { result ≡ a - b }
 {
-    if b < a { a - b } else { 0 }
+    a.saturating_sub(b)
 }
 
 // The number itself; 0 where it is negative.
 pub fn above_zero(n: i64) -> u64
     ensures { result ≡ above_zero n }
 {
-    if 0 < n { n as u64 } else { 0 }
+    n.max(0) as u64
 }
 
 // The greatest number whose square is at most n.
@@ -65,7 +59,7 @@ pub fn square_root(n: u64) -> u64
     ensures { (result * result ≤ n) × (n < (result + 1) * (result + 1)) }
 {
     if 0 < n {
-        let pairs = u64::leading_zeros(n) / 2;
+        let pairs = n.leading_zeros() / 2;
         let guess = near_root(n << (2 * pairs)) >> pairs;
         if n / guess < guess { guess - 1 } else { guess }
     } else {

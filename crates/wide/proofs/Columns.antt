@@ -1,18 +1,16 @@
 -- Sums by columns: what is carried out of one goes into the next, and three of them make a wide number.
-use Rattle.std.proofs.Common.{◌≡◌, ℕ, ◌+◌, ◌*◌, add-zero, add_assoc, mul_assoc, add-mul, mul-add, arith}
+use Rattle.std.proofs.Common.{◌≡◌, ℕ, ◌+◌, ◌*◌, ap, add-zero, add_assoc, mul_assoc, add-mul, mul-add, arith}
 use native.Mathlib.Nat.{add_left_comm}
 use Rattle.wide.specs.Value.{base, size, value}
 use Rattle.wide.specs.declared.Wide.{Wide}
 
 -- in base B: the digit x, and c that is carried out, make up y and d that is carried in
 pub record Column (B x c y d : ℕ) : Type 0 where
-  pub sum : x + B * c ≡ y + d
+  pub sum : x + c * B ≡ y + d
 
 -- a column and the one above it make one, in a greater base
 joined : {B C x y x' y' c d e : ℕ} → Column B x c y d → Column C x' e y' c → Column (B * C) (x + B * x') e (y + B * y') d
-joined {B} {C} {x} {y} {x'} {y'} {c} {d} {e} h k =
-    let above : B * x' + B * C * e ≡ B * y' + B * c = rw (mul_assoc, ← mul-add, ← mul-add, k.sum) in
-    record { sum = omega arith }
+joined {B} h k = record { sum = omega (arith, h.sum, ap (λ (n : ℕ). B * n) k.sum) }
 
 pub three : {x y x' y' x'' y'' c d e f : ℕ}
     → Column base x c y d

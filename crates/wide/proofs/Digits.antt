@@ -1,7 +1,10 @@
--- A number by its three digits: what bounds it, what the upper two tell, and that no other three make it.
-use Rattle.std.proofs.Common.{◌≡◌, ℕ, ◌+◌, ◌*◌, ◌/◌, ◌%◌, ◌^◌, ◌<◌, ◌≤◌, sym, ap, ◌∙◌, add-zero, mod-eq_of_lt, mul_comm, add_comm, mul-le-mul_left, mul-zero, arith}
+-- A number by its three digits: what bounds it, what the upper two are of it, that no other three make it, and that they tell which of two is less.
+use Rattle.std.proofs.Common.{◌≡◌, ℕ, ◌+◌, ◌*◌, ◌/◌, ◌%◌, ◌^◌, ◌<◌, sym, ap, ◌∙◌, add-zero, mod-eq_of_lt, mul_comm, add_comm, mul-zero, arith}
 use native.Mathlib.Nat.{div-eq_of_lt, add-mul-mod_self_left, add-mul-div_left}
 use lib.Arith.{digits_lt}
+use Rattle.std.specs.Cmp.{ranks, nat_cmp_is}
+use Rattle.std.proofs.Common.{Ordering, Less, Equal, Greater}
+use Rattle.std.specs.Ordering.{MatchOrdering, nat_cmp, ordering_then}
 use Rattle.wide.specs.Value.{base, size, value, Digits, Is}
 use Rattle.wide.specs.declared.Wide.{Wide}
 
@@ -15,17 +18,9 @@ below {w} h =
 abbrev pub upper : Wide → Wide
 upper w = record { low = w.middle; middle = w.high; high = 0 }
 
-split : (w : Wide) → value w ≡ w.low + base * value (upper w)
+pub split : (w : Wide) → value w ≡ w.low + base * value (upper w)
 unfolding value
 split w = simp (mul-zero, add-zero)
-
--- they tell whether the base times a number goes into w
-pub over : (w : Wide) {d : ℕ} → d ≤ value (upper w) → base * d ≤ value w
-over w h = omega (arith, split w, mul-le-mul_left base h)
-
-pub under : (w : Wide) {d : ℕ} → w.low < 2 ^ 64 → value (upper w) < d → value w < base * d
-unfolding base
-under w h k = omega (arith, split w)
 
 -- ---- a number tells its digits
 -- the lowest, and what stands above it
@@ -42,3 +37,21 @@ only h k =
     let lowest = told (2 ^ 64) h.digits.low k.digits.low (h.same ∙ sym k.same) in
     let others = told (2 ^ 64) h.digits.middle k.digits.middle lowest.1 in
     λ i. record { low = lowest.0 i; middle = others.0 i; high = others.1 i }
+
+-- ---- numbers compare as their digits do, the highest first
+-- a digit is looked at where the numbers above it are equal
+decides : (p q x y : ℕ) (r s : Ordering) → x < 2 ^ 64 → y < 2 ^ 64 → MatchOrdering r (p < q) (p ≡ q) (q < p) → MatchOrdering s (x < y) (x ≡ y) (y < x)
+    → MatchOrdering (ordering_then r s) (x + base * p < y + base * q) (x + base * p ≡ y + base * q) (y + base * q < x + base * p)
+unfolding base
+decides p q x y Less s h k above here = omega arith
+decides p q x y Equal Less h k above here = omega arith
+decides p q x y Equal Equal h k above here = omega arith
+decides p q x y Equal Greater h k above here = omega arith
+decides p q x y Greater s h k above here = omega arith
+
+pub in_order : {v w : Wide} → Digits v → Digits w
+    → ordering_then (ordering_then (nat_cmp v.high w.high) (nat_cmp v.middle w.middle)) (nat_cmp v.low w.low) ≡ nat_cmp (value v) (value w)
+unfolding value
+in_order {v} {w} h k =
+    nat_cmp_is (value v) (value w) _
+    (decides _ _ v.low w.low _ _ h.low k.low (decides v.high w.high v.middle w.middle _ _ h.middle k.middle (ranks v.high w.high) (ranks v.middle w.middle)) (ranks v.low w.low))

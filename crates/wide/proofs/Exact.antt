@@ -1,6 +1,8 @@
 -- For a caller: a law for each public function, by which a wide number is the one that was meant. `first` is where a caller starts, `exactly` has a line for
 -- each product, and `up_exact` and `down_exact` lead back to 64 bits. All that is to be shown are numbers of bits, and `value` and `size` stay shut.
-use Rattle.std.proofs.Common.{◌≡◌, ℕ, ◌+◌, ◌-◌, ◌*◌, ◌%◌, ◌^◌, ◌<◌, ◌≤◌, min, Bool, leb, lt_of_lt_of_le, lt_of_le_of_lt, le_of_lt, mod-eq_of_lt, mul-le-mul_left, arith, pow_mono, shl_lt}
+use Rattle.std.proofs.Common.{◌≡◌, ℕ, ◌+◌, ◌-◌, ◌*◌, ◌%◌, ◌^◌, ◌<◌, ◌≤◌, min, leb, Ordering, lt_of_lt_of_le, lt_of_le_of_lt, le_of_lt, mod-eq_of_lt, mul-le-mul_left, arith, pow_mono, shl_lt}
+use Rattle.std.proofs.lemmas.Bool.Decides.{nat_tests}
+use Rattle.std.specs.Ordering.{nat_cmp, on, as_partial_cmp, partial_le}
 use Rattle.whole.specs.Rounding.{rounded_up, rounded_down}
 use Rattle.wide.specs.Value.{size, value, Is}
 use Rattle.wide.specs.declared.Wide.{Wide}
@@ -10,7 +12,7 @@ pub record Bits (w : Wide) (k x : ℕ) : Type 0 where
   pub same : value w ≡ x
   pub few : x < 2 ^ k
 
--- `of`
+-- `Wide::from`
 pub first : {w : Wide} {x : ℕ} (k : ℕ) → Is w x → x < 2 ^ k → Bits w k x
 first k e h = record { same = e.same; few = h }
 
@@ -25,9 +27,13 @@ exactly {k = k} {x} {f} m a h within e =
 pub both : {w : Wide} {x y : ℕ} → x < 2 ^ 64 → y < 2 ^ 64 → Is w (x * y) → Bits w 128 (x * y)
 both {x = x} h k e = record { same = e.same; few = lt_of_le_of_lt (mul-le-mul_left x (le_of_lt k)) (shl_lt 64 64 h) }
 
+-- `<=`: is the one no greater than the other?
+pub at_most : (a b : Wide) → partial_le (as_partial_cmp (on value nat_cmp)) a b ≡ leb (value a) (value b)
+at_most a b = grind (arith, nat_tests)
+
 module _ {a b : Wide} {k m x y : ℕ} (ha : Bits a k x) (hb : Bits b m y) where
-  -- `at_most`
-  pub compared : {t : Bool} → t ≡ leb (value a) (value b) → t ≡ leb x y
+  -- `cmp`
+  pub compared : {o : Ordering} → o ≡ nat_cmp (value a) (value b) → o ≡ nat_cmp x y
   compared e = rw (ha.same, hb.same) at e
 
   -- `minus`

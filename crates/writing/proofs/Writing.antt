@@ -1,20 +1,23 @@
 -- A job file is written, numbers as bytes, one behind the other; and how a writing ends.
-use Prim.Native.Nat.{ℕ, ◌+◌, ◌*◌, ◌≤◌, ◌<◌}
-use mathlib.Core.Path.{◌≡◌, sym}
-use mathlib.Core.Bool.{true, false}
-use mathlib.Core.List.{List, [], map}
+use Prim.Native.Nat.{ℕ, ◌+◌, ◌*◌, ◌/◌, ◌%◌, ◌≤◌, ◌<◌}
+use mathlib.Core.Path.{◌≡◌, refl, sym, ap, ◌∙◌}
+use mathlib.Core.List.{List, [], ◌∷◌, ◌++◌, map}
 use native.Mathlib.Nat.{mul-zero, mul-le-mul_left}
 use native.Mathlib.Omega.{arith}
 use lib.ListN.{length, get_or, length-map}
+use lib.Seq.{ext_get_or}
+use borrow.Rule.Slice.PartMut.{put_mid}
+use Rattle.std.specs.List.{flat_map}
 use Rattle.whole.proofs.Indexed.{mapped}
-use Rattle.rules.specs.declared.Answer.{Answer}
+use Rattle.std.specs.Prelude.{Result, Ok, Err, ⊤}
+use Rattle.rules.specs.declared.Refusal.{Refusal}
 use Rattle.rules.specs.JobFile.{File}
-use Rattle.rules.specs.Answered.{is_worked}
+use Rattle.rules.specs.Answered.{Answer}
 use Rattle.rules.specs.SheetLine.{joined}
 use Rattle.rules.specs.Beyond.{onto}
-use Rattle.rules.specs.WrittenFile.{file_of, writing_answer, bytes_written, Writes}
-use Rattle.rules.proofs.Putting.{behind, with_back, no_text}
-use Rattle.rules.proofs.Pieces.{Pieced, none_put, room_behind, one_further, all_put}
+use Rattle.rules.specs.WrittenFile.{u16_bytes, u32_bytes, file_of, writing_answer, bytes_written, Writes}
+use Rattle.rules.proofs.Putting.{behind, with_back, behind_is, back_is}
+use Rattle.rules.proofs.Pieces.{Pieced, none_put, one_further, all_put}
 
 -- ---- numbers of one width: so many are put as bytes, and there is room for all
 
@@ -33,11 +36,7 @@ module _ {bytes_of : ℕ → File} {size : ℕ} {numbers before : List ℕ} wher
       within : size * k + size ≤ length before
       within = omega (arith, so_far.room, mul-le-mul_left size inside)
 
-      -- there is room for the next
-      pub next_room : size ≤ length (behind (size * k) out)
-      next_room = room_behind so_far.pieced within
-
-      -- and it is put there
+      -- the next is put behind them
       pub next_number : {part : List ℕ} → part ≡ onto (bytes_of (get_or numbers k 0)) (behind (size * k) out)
           → NumbersPut bytes_of size numbers before (k + 1) (with_back (size * k) out part)
       next_number {part} put =
@@ -55,16 +54,39 @@ module _ {bytes_of : ℕ → File} {size : ℕ} {numbers before : List ℕ} wher
     pub all_numbers : length numbers ≤ k → out ≡ onto (joined (map bytes_of numbers)) before
     all_numbers h = (all_put so_far.pieced (omega (arith, length-map numbers bytes_of))).holds
 
+-- in the place of as many bytes there it is put alike
+pub in_place : (n m : ℕ) (out bytes : List ℕ) → length bytes ≡ m → put_mid n m out bytes ≡ with_back n out (onto bytes (behind n out))
+unfolding onto
+in_place n m out bytes sized = rw (back_is, behind_is, sized)
+
+-- the bytes of every number, piece by piece
+flat : (pieces : List File) → flat_map (λ piece. piece) pieces ≡ joined pieces
+unfolding joined
+flat [] = refl
+flat (piece ∷ rest) = ap (λ (behind : File). piece ++ behind) (flat rest)
+
+pub all_bytes : (bytes_of : ℕ → File) (numbers : List ℕ) (pieces : List File) → length pieces ≡ length numbers
+    → ((k : ℕ) → k < length numbers → get_or pieces k [] ≡ bytes_of (get_or numbers k 0)) → flat_map (λ piece. piece) pieces ≡ joined (map bytes_of numbers)
+all_bytes bytes_of numbers pieces same each =
+    let are : pieces ≡ map bytes_of numbers = ext_get_or [] pieces (map bytes_of numbers) (same ∙ sym (length-map numbers bytes_of))
+    (λ k h. let l : k < length numbers = omega arith in each k l ∙ sym (mapped bytes_of numbers k [] 0 l)) in
+    rw are (flat (map bytes_of numbers))
+
+-- four bytes, each behind the lower ones
+pub low_first : (n : ℕ) → n % 256 ∷ n / 256 % 256 ∷ n / 65536 % 256 ∷ n / 16777216 % 256 ∷ [] ≡ u32_bytes n
+unfolding u16_bytes u32_bytes
+low_first n = let top : n / 16777216 ≡ n / 65536 / 256 = omega arith in rw top
+
 -- ---- how a writing ends
 
 module _ {walls loads before : List ℕ} {answer : Answer} (is : answer ≡ writing_answer walls loads (length before)) where
   -- it is refused
-  pub not_written : is_worked answer ≡ false → Writes walls loads before (record { answer = answer; bytes = 0 }) before
-  unfolding bytes_written
-  not_written refused = record { answered = is; put = rw (← is, refused) (no_text before) }
+  pub not_written : {refusal : Refusal} {written : Result ℕ Refusal} → answer ≡ Err refusal → written ≡ Err refusal → Writes walls loads before written before
+  unfolding onto bytes_written
+  not_written refused same = record { answered = rw (← is, refused) same; holds = rw (← is, refused) }
 
   -- the file is written
-  pub all_written : {after : List ℕ} {n : ℕ} → is_worked answer ≡ true → n ≡ length (file_of walls loads) → after ≡ onto (file_of walls loads) before
-      → Writes walls loads before (record { answer = answer; bytes = n }) after
+  pub all_written : {well : ⊤} {after : List ℕ} {n : ℕ} → answer ≡ Ok well → n ≡ length (file_of walls loads) → after ≡ onto (file_of walls loads) before
+      → Writes walls loads before (Ok n) after
   unfolding bytes_written
-  all_written worked counted put = record { answered = is; put = rw (← is, worked) (record { counted = counted; holds = put }) }
+  all_written worked counted put = record { answered = rw (← is, worked, counted); holds = rw (← is, worked) put }

@@ -3,7 +3,7 @@
 
 use job::HEADER_BYTES;
 use record::{ENTRY_BYTES, MOST_LOADS, MOST_WALLS, WALL_BYTES};
-use rules::Written;
+use rules::Refusal;
 
 mod bytes;
 mod lent;
@@ -15,16 +15,11 @@ ghost use Rattle.rules.specs.WrittenFile.{Writes};
 pub const FILE_ROOM: usize = HEADER_BYTES + WALL_BYTES * MOST_WALLS + ENTRY_BYTES * MOST_LOADS;
 
 // The file that records make is written at the start of the buffer, and whatever stands behind it is as it was; or it is refused, and the buffer is as it was.
-pub fn write(walls: &[u32], loads: &[u32], out: &mut [u8]) -> Written
+pub fn write(walls: &[u32], loads: &[u32], out: &mut [u8]) -> Result<usize, Refusal>
     ensures { Writes walls.now loads.now out.old result out.new }
 {
-    let answer = written::writing_answer(walls, loads, out.len());
-    if !reply::is_worked(answer) {
-        return Written { answer, bytes: 0 };
-    }
-    written::put_file(walls, loads, out);
-    Written {
-        answer,
-        bytes: written::file_bytes(walls, loads),
-    }
+    let records = lent::whole(walls, loads)?;
+    records.writing_answer(out.len())?;
+    records.put_file(out);
+    Ok(records.file_bytes())
 }

@@ -1,69 +1,80 @@
 // What is answered where the file that records make is written, and the file put into a lent buffer that has the room.
-ghost use Rattle.std.specs.Prelude.{◌≡◌, ◌≤◌, T, ltb, length};
+ghost use Rattle.std.specs.Prelude.{◌≡◌, ◌≤◌, ltb, length};
 ghost use Rattle.rules.specs.JobFile.{header_bytes, most_walls, most_loads};
 ghost use Rattle.rules.specs.Beyond.{onto};
-ghost use Rattle.rules.specs.WrittenFile.{header_of, file_of, records_fit, writing_answer};
+ghost use Rattle.rules.specs.WrittenFile.{u16s_bytes, header_of, file_of, records_answer, writing_answer};
 
-use crate::{bytes, lent};
-use job::{EDITION, HEADER_BYTES};
+use crate::bytes;
+use crate::lent::Lent;
+use job::{EDITION, HEADER_BYTES, Records};
 use record::{ENTRY_BYTES, WALL_BYTES};
-use rules::Answer;
+use rules::{Answer, Refusal};
 
-// How many bytes the file has: a number takes four.
-pub fn file_bytes(walls: &[u32], loads: &[u32]) -> usize
-    requires { T (records_fit walls.now loads.now) }
-    ensures { result ≡ length (file_of walls.now loads.now) }
+// The numbers of the header, by how many walls and how many loads there are.
+fn header_numbers(walls: u16, loads: u16) -> [u16; 6]
+    requires { (walls ≤ most_walls) × (loads ≤ most_loads) }
+    ensures { u16s_bytes result ≡ header_of walls loads }
 {
-    HEADER_BYTES + 4 * walls.len() + 4 * loads.len()
-}
-
-// Is room for so many bytes too little for the file? Of any buffers, so that no sum is made that might not fit.
-fn is_short(walls: &[u32], loads: &[u32], room: usize) -> bool
-    ensures { result ≡ ltb room (length (file_of walls.now loads.now)) }
-{
-    let end = HEADER_BYTES + 4 * walls.len();
-    if room < end {
-        return true;
-    }
-    room - end < 4 * loads.len()
-}
-
-// 3, 5, 6 and 7, and 9 last, where there is room for so many bytes.
-pub fn writing_answer(walls: &[u32], loads: &[u32], room: usize) -> Answer
-    ensures { result ≡ writing_answer walls.now loads.now room }
-{
-    let answer = lent::records_answer(walls, loads);
-    let short = reply::refused_if(is_short(walls, loads, room), Answer::OutputTooShort);
-    reply::or_else(answer, short)
-}
-
-// The header, by how many walls and how many loads there are.
-fn put_header(walls: u16, loads: u16, out: &mut [u8])
-    requires { (walls ≤ most_walls) × (loads ≤ most_loads) × (header_bytes ≤ length out.old) }
-    ensures { out.new ≡ onto (header_of walls loads) out.old }
-{
-    let first_load = HEADER_BYTES + WALL_BYTES * (walls as usize);
-    let length = first_load + ENTRY_BYTES * (loads as usize);
-    let numbers = [
+    let first_load = HEADER_BYTES + WALL_BYTES * usize::from(walls);
+    let length = first_load + ENTRY_BYTES * usize::from(loads);
+    [
         EDITION,
         walls,
         HEADER_BYTES as u16,
         loads,
         first_load as u16,
         length as u16,
-    ];
-    bytes::put_u16s(&numbers, out);
+    ]
 }
 
-// The header, the walls behind it, and the loads behind these.
-pub fn put_file(walls: &[u32], loads: &[u32], out: &mut [u8])
-    requires { T (records_fit walls.now loads.now) × (length (file_of walls.now loads.now) ≤ length out.old) }
-    ensures { out.new ≡ onto (file_of walls.now loads.now) out.old }
+// Their bytes, each number's behind those of the one before.
+fn put_header(walls: u16, loads: u16, out: &mut [u8])
+    requires { (walls ≤ most_walls) × (loads ≤ most_loads) × (header_bytes ≤ length out.old) }
+    ensures { out.new ≡ onto (header_of walls loads) out.old }
 {
-    let end = HEADER_BYTES + 4 * walls.len();
-    let wall_count = lent::wall_count(walls) as u16;
-    let load_count = lent::load_count(loads) as u16;
-    put_header(wall_count, load_count, out);
-    bytes::put_u32s(walls, &mut out[HEADER_BYTES..]);
-    bytes::put_u32s(loads, &mut out[end..]);
+    let bytes = header_numbers(walls, loads).map(u16::to_le_bytes);
+    out[..HEADER_BYTES].copy_from_slice(bytes.as_flattened());
+}
+
+impl Lent<'_> {
+    // How many bytes the file has: a number takes four.
+    pub fn file_bytes(&self) -> usize
+        ensures { result ≡ length (file_of self.now.walls.now self.now.loads.now) }
+    {
+        HEADER_BYTES + 4 * self.walls.len() + 4 * self.loads.len()
+    }
+
+    // 5, 6 and 7, in order.
+    fn records_answer(&self) -> Answer
+        ensures { result ≡ records_answer self.now.walls.now self.now.loads.now }
+    {
+        self.check_walls()?;
+        self.check_loads()
+    }
+
+    // Is room for so many bytes too little for the file?
+    fn is_short(&self, room: usize) -> bool
+        ensures { result ≡ ltb room (length (file_of self.now.walls.now self.now.loads.now)) }
+    {
+        room < self.file_bytes()
+    }
+
+    // 5, 6 and 7, and 9 last, where there is room for so many bytes.
+    pub fn writing_answer(&self, room: usize) -> Answer
+        ensures { result ≡ writing_answer self.now.walls.now self.now.loads.now room }
+    {
+        self.records_answer()?;
+        reply::refused_if(self.is_short(room), Refusal::OutputTooShort)
+    }
+
+    // The header, the walls behind it, and the loads behind these.
+    pub fn put_file(&self, out: &mut [u8])
+        requires { length (file_of self.now.walls.now self.now.loads.now) ≤ length out.old }
+        ensures { out.new ≡ onto (file_of self.now.walls.now self.now.loads.now) out.old }
+    {
+        let end = HEADER_BYTES + 4 * self.walls.len();
+        put_header(self.wall_count(), self.entry_count(), out);
+        bytes::put_u32s(self.walls, &mut out[HEADER_BYTES..]);
+        bytes::put_u32s(self.loads, &mut out[end..]);
+    }
 }

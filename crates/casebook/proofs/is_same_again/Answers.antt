@@ -7,5 +7,5 @@ use Rattle.casebook.proofs.is_same_again.Goals as goal
 pub slice_bounds-file-end : goal.slice_bounds-file-end
 slice_bounds-file-end c = put_within c.rewrite-count.ensures
 
-pub slice_bounds-are_same-end : goal.slice_bounds-are_same-end
-slice_bounds-are_same-end c = sym (length-take-le _ _ (put_within c.rewrite-count.ensures))
+pub slice_bounds-eq-end : goal.slice_bounds-eq-end
+slice_bounds-eq-end c = sym (length-take-le _ _ (put_within c.rewrite-count.ensures))

@@ -1,31 +1,24 @@
 -- `job::first_refusal` meets its contract. The header's answer, the walls' and the loads' follow each other.
-use mathlib.Core.Path.{◌≡◌, sym, ◌∙◌}
-use mathlib.Core.List.{[]}
-use Rattle.rules.specs.JobFile.{walls, entries}
-use Rattle.rules.specs.Answered.{◌or_else◌, first_bad_wall, first_bad_load, first_refusal}
+use Rattle.std.proofs.Common.{rules}
+use mathlib.Core.Path.{sym, ◌∙◌}
+use Rattle.rules.proofs.AcceptedFile.{walls_length}
 use Rattle.job.proofs.Judging.{stops, goes_on, no_refusal, in_order, few_walls}
-use Rattle.job.proofs.first_refusal.Goals.{Else-not-is_worked}
 use Rattle.job.proofs.first_refusal.Goals as goal
 
-pub returns-then-not-is_worked : goal.returns-then-not-is_worked
-returns-then-not-is_worked c = stops _ (in_order _) c.header_answer-bad_header.ensures c.is_worked.ensures c.if-not-is_worked.true-raw
+pub returns-in_err-check_header : goal.returns-in_err-check_header
+returns-in_err-check_header c = stops _ (in_order _) c.check_header.ensures c.in_err-check_header.was (search rules)
 
-past_header : (c : Else-not-is_worked) → let file = c.args.file.now in
-    first_refusal file ≡ (first_bad_wall 1 (walls file) or_else first_bad_load (walls file) [] 1 (entries file))
-past_header c = goes_on _ (in_order _) c.header_answer-bad_header.ensures c.is_worked.ensures c.if-not-is_worked.false-raw
+pub returns-in_err-check_walls : goal.returns-in_err-check_walls
+returns-in_err-check_walls c =
+    let past-header = goes_on _ (in_order _) c.check_header.ensures c.in_ok-check_header.was in
+    stops _ past-header c.check_walls.ensures c.in_err-check_walls.was (search rules)
 
-pub returns-then-not-is_worked-2 : goal.returns-then-not-is_worked-2
-returns-then-not-is_worked-2 c =
-    let d = c in
-    stops _ (past_header (goal.at.returns-then-not-is_worked-2 c).Else-not-is_worked) d.first_bad_wall-bad_wall.ensures c.is_worked-2.ensures c.if-not-is_worked-2.true-raw
-
-pub first_bad_load-requires : goal.first_bad_load-requires
-first_bad_load-requires c =
-    let d = c in
-    few_walls _ (no_refusal d.header_answer-bad_header.ensures d.is_worked.ensures d.if-not-is_worked.false-raw)
+pub invariant_of-records : goal.invariant_of-records
+invariant_of-records c =
+    let passed = no_refusal c.check_header.ensures c.in_ok-check_header.was in record { few_walls = rw walls_length (few_walls c.args.file.now passed) }
 
 pub returns : goal.returns
 returns c =
-    let d = c in
-    let past-walls = goes_on _ (past_header (goal.at.returns c).Else-not-is_worked) d.first_bad_wall-bad_wall.ensures c.is_worked-2.ensures c.if-not-is_worked-2.false-raw in
-    c.first_bad_load.ensures ∙ sym past-walls
+    let past = goes_on _ (in_order _) c.check_header.ensures c.in_ok-check_header.was in
+    let past-walls = goes_on _ past c.check_walls.ensures c.in_ok-check_walls.was in
+    c.check_loads.ensures ∙ sym past-walls

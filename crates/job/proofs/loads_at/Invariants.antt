@@ -5,4 +5,4 @@ use Rattle.job.specs.Places.{loads_at}
 use Rattle.job.proofs.loads_at.Given as goal
 
 abbrev pub invariant-loop-i : goal.invariant-loop-i
-invariant-loop-i l = Filled (loads_at l.file l.row) most_loads_on_wall l.i l.loads
+invariant-loop-i l = Filled (loads_at l.file l.number-items) most_loads_on_wall l.i l.loads

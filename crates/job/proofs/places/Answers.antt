@@ -13,7 +13,7 @@ loop-i-preserved c =
     let its = c.entry_at-entry.ensures in (
       omega arith,
       elim c.if-wall-ge1.branch [
-        | then-wall-ge1+then-wall w ↦ rw w.table-is (one_placed _ _ _ placed _ its (omega arith) (omega arith) _ w.with_place.ensures)
+        | then-wall-ge1+then-wall w ↦ rw w.table-is (one_placed _ _ _ placed _ its (omega arith) (omega arith) _ w.add_place.ensures)
         | else-wall-ge1 w ↦ rw w.table-is (none_placed _ _ _ placed _ its
             (elim w.else-wall-ge1.branch [
               | else-wall-ge1-via-then-wall-ge1+else-wall v ↦ λ low high. omega arith
@@ -26,8 +26,8 @@ pub returns : goal.returns
 unfolding entries
 returns c =
     let loop = c.loop-i in
-    let all : loop.i ≡ c.load_count-loads.result = omega arith in
-    all_placed _ _ _ loop.invariant.1 ∙ rw (all, c.load_count-loads.ensures)
+    let all : loop.i ≡ c.load_count.result = omega arith in
+    all_placed _ _ _ loop.invariant.1 ∙ rw (all, c.load_count.ensures)
 
 pub loop-i-init : goal.loop-i-init
 loop-i-init c = (omega arith, begun _)
@@ -40,9 +40,3 @@ offset_bounds-table-index c = omega (arith, leb-true)
 
 pub bounds-table-index : goal.bounds-table-index
 bounds-table-index c = omega (arith, leb-true)
-
-pub offset_bounds-table-index-then-wall : goal.offset_bounds-table-index-then-wall
-offset_bounds-table-index-then-wall c = omega (arith, leb-true)
-
-pub bounds-table-index-then-wall : goal.bounds-table-index-then-wall
-bounds-table-index-then-wall c = omega (arith, leb-true)

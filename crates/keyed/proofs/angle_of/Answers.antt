@@ -1,44 +1,29 @@
 -- `keyed::angle_of` meets its contract.
-use mathlib.Core.Path.{◌≡◌, sym, ◌∙◌}
-use mathlib.Core.Bool.{true}
-use mathlib.Core.List.{List}
-use Prim.Native.Nat.{ℕ, ◌-◌, ◌≤◌}
+use mathlib.Core.Path.{◌≡◌, ◌∙◌}
+use Prim.Native.Nat.{◌-◌, ◌≤◌, ◌<◌}
 use native.Mathlib.Omega.{arith}
-use borrow.Author.Tests.{not-true, not-false}
-use lib.ListN.{length, drop, length-drop}
-use lib.Seq.{length-take-le, take_all}
+use Rattle.std.proofs.Common.{rules}
+use borrow.Author.Tests.{lt-leb}
+use lib.ListN.{length, take}
 use Rattle.keyed.specs.Keyed.{has_point, angle_of}
-use Rattle.keyed.proofs.Reading.{point_from}
-use Rattle.keyed.proofs.angle_of.Goals.{Else-not-has_point}
+use Rattle.keyed.proofs.Reading.{without_degrees, without_point, with_point}
+use Rattle.keyed.proofs.angle_of.Goals.{then-is_empty-via-then-is_empty, then-is_empty-via-else-is_empty+then-point-ne46}
 use Rattle.keyed.proofs.angle_of.Goals as goal
 
--- past the test there is a point, and so three bytes at least
-abbrev word : (c : Else-not-has_point) → List ℕ
-word c = c.args.word.now
+pub returns-in_default : goal.returns-in_default
+unfolding angle_of has_point
+returns-in_default c = let none : length c.args.word.now < 3 = omega arith in rw (lt-leb 3 _ none) c.angle_by.ensures
 
-point : (c : Else-not-has_point) → has_point (word c) ≡ true
-point c = sym c.has_point.ensures ∙ not-false _ c.if-not-has_point.false-raw
-
-three : (c : Else-not-has_point) → 3 ≤ length (word c)
-three c = point_from (word c) (point c)
-
-pub returns-then-not-has_point : goal.returns-then-not-has_point
-unfolding angle_of
-returns-then-not-has_point c = rw (sym c.has_point.ensures ∙ not-true _ c.if-not-has_point.true-raw) c.angle_by.ensures
+pub returns-then-is_empty : goal.returns-then-is_empty
+returns-then-is_empty c =
+    c.angle_by-then-is_empty.ensures
+    ∙ elim c.then-is_empty.branch [
+      | then-is_empty-via-then-is_empty w ↦
+          let none : length (take (length c.args.word.now - 2) c.args.word.now) ≡ 0 = search rules in without_degrees _ none
+      | then-is_empty-via-else-is_empty+then-point-ne46 w ↦ without_point _ w.if-point-ne46.true
+    ]
 
 pub returns : goal.returns
-unfolding angle_of
 returns c =
-    let at = c in
-    let n = length (word (goal.at.returns c).Else-not-has_point) in
-    let whole = take_all (n - (n - 1)) (drop (n - 1) (word (goal.at.returns c).Else-not-has_point)) (rw length-drop (omega arith)) in
-    rw (point (goal.at.returns c).Else-not-has_point) (rw whole at c.angle_by-2.ensures)
-
-pub slice_bounds-angle_by-count : goal.slice_bounds-angle_by-count
-slice_bounds-angle_by-count c = omega (arith, three (goal.at.slice_bounds-angle_by-count c).Else-not-has_point)
-
-pub slice_bounds-angle_by-length : goal.slice_bounds-angle_by-length
-slice_bounds-angle_by-length c = sym (length-take-le _ _ (omega arith))
-
-pub overflow_sub-count : goal.overflow_sub-count
-overflow_sub-count c = omega (arith, three (goal.at.overflow_sub-count c).Else-not-has_point)
+    let some : 1 ≤ length (take (length c.args.word.now - 2) c.args.word.now) = search rules in
+    c.angle_by-2.ensures ∙ with_point _ some c.if-point-ne46.false

@@ -2,5 +2,5 @@
 use Rattle.keyed.proofs.Reading.{Passed}
 use Rattle.keyed.proofs.digits_behind.Given as goal
 
-abbrev pub invariant-loop-i : goal.invariant-loop-i
-invariant-loop-i l = Passed l.number l.word l.value l.i
+abbrev pub invariant-loop-byte : goal.invariant-loop-byte
+invariant-loop-byte l = Passed l.number l.word l.value l.byte-index

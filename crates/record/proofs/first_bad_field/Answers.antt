@@ -1,39 +1,29 @@
--- `record::first_bad_field` meets its contract. The invariant: the first bad field is the first from the next one on. The table that is gone through
--- is that of the rules: the two are compared entry by entry.
-use mathlib.Core.Path.{◌≡◌, refl, sym, ◌∙◌}
-use mathlib.Core.Bool.{cond}
-use Prim.Native.Nat.{suc, ◌-◌}
-use native.Mathlib.Omega.{arith}
+-- `record::first_bad_field` meets its contract: the number is one more than the place that is found. The table that is gone through is that of the
+-- rules: the two are compared entry by entry.
+use mathlib.Core.Path.{◌≡◌, sym, ap, ◌∙◌}
 use native.Mathlib.Numerals.{add-one}
-use borrow.Author.Tests.{not-true, not-false}
-use lib.ListN.{drop}
-use lib.Seq.{drop-cons}
-use Rattle.rules.specs.declared.Range.TheVariants.{Between}
-use Rattle.rules.specs.JobFile.{wall_fields, ranges, first_outside, first_bad_field}
-use Rattle.record.proofs.first_bad_field.Goals.{After-is_within}
+use native.Mathlib.Omega.{arith}
+use Rattle.std.proofs.Common.{rules, tests}
+use Rattle.std.proofs.lemmas.Iterator.{YieldsList-from_slice, YieldsList-from_zip}
+use Rattle.std.proofs.lemmas.Iterator.Adapters.{position_from-zero}
+use Rattle.std.proofs.lemmas.Iterator.Search.{position_from_yields_List}
+use Rattle.std.specs.List.{zip}
+use Rattle.rules.specs.JobFile.{ranges, first_bad_field}
+use Rattle.record.proofs.Places.{number_at, outside, outside_at}
+use Rattle.record.proofs.first_bad_field.Goals.{After-position}
 use Rattle.record.proofs.first_bad_field.Goals as goal
 
-pub loop-i-init : goal.loop-i-init
+at : (c : After-position) → first_bad_field c.args.wall ≡ number_at c.position.result
 unfolding first_bad_field
-loop-i-init c = (omega arith, refl)
+at c =
+    let wall = c.args.wall in
+    outside_at wall 0 ranges (omega arith) ∙ sym (ap number_at
+    (position_from_yields_List (outside wall) c.position.new.self _ c.position.result c.position.ensures.ran
+    (YieldsList-from_zip (YieldsList-from_slice wall cc) (YieldsList-from_slice ranges cc)) (λ x b q k. search (rules, tests))
+    ∙ position_from-zero (outside wall) (zip wall ranges)))
 
--- the field is judged, and then those behind it
-next : (c : After-is_within) → let d = c.before.before.before in let i = d.loop-i.i in let wall = d.args.wall in
-    first_bad_field wall ≡ cond c.is_within.result (first_outside wall (suc (suc i)) (drop (suc i) ranges)) (suc i)
-unfolding first_outside
-next c =
-    let d = c.before.before.before in
-    let i = d.loop-i.i in
-    let h = c.loop-i-test.true in
-    let k : suc i - 1 ≡ i = omega arith in
-    d.loop-i.invariant.1 ∙ rw (drop-cons ranges i (Between 0 0) h, k, ← c.is_within.ensures _ d.measures_of-measures.ensures)
-
-pub returns-then-not-is_within : goal.returns-then-not-is_within
-returns-then-not-is_within c = rw add-one (sym (rw (not-true c.is_within.result c.if-not-is_within.true-raw) at (next c.before)))
-
-pub loop-i-preserved : goal.loop-i-preserved
-loop-i-preserved c = (omega arith, rw add-one (rw (not-false c.is_within.result c.if-not-is_within.false-raw) at (next c.before)))
+pub returns-in_err-place : goal.returns-in_err-place
+returns-in_err-place c = let h = at (goal.at.returns-in_err-place c).After-position in rw (h, c.in_err-place.was) c.from_residual.ensures
 
 pub returns : goal.returns
-unfolding first_outside
-returns c = let e : c.loop-i.i ≡ wall_fields = omega arith in sym (c.loop-i.invariant.1 ∙ rw e)
+returns c = let h = at (goal.at.returns c).After-position in rw (h, c.in_ok-place.was, add-one)

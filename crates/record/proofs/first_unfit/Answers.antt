@@ -1,39 +1,25 @@
--- `record::first_unfit` meets its contract. The invariant: the first load that doesn't fit is the first from the next one on.
-use mathlib.Core.Path.{◌≡◌, refl, sym, ◌∙◌}
-use mathlib.Core.Bool.{cond}
-use mathlib.Core.List.{[]}
-use Prim.Native.Nat.{suc, ◌≤◌}
-use native.Mathlib.Omega.{arith}
+-- `record::first_unfit` meets its contract: the number is one more than the place that is found.
+use mathlib.Core.Path.{◌≡◌, sym, ap, ◌∙◌}
 use native.Mathlib.Numerals.{add-one}
-use borrow.Author.Tests.{not-true, not-false}
-use lib.ListN.{length, drop, drop_of_length-le}
-use lib.Seq.{drop-cons}
+use Rattle.std.proofs.Common.{rules, tests}
+use Rattle.std.proofs.lemmas.Iterator.{YieldsList-from_slice}
+use Rattle.std.proofs.lemmas.Iterator.Adapters.{position_from-zero}
+use Rattle.std.proofs.lemmas.Iterator.Search.{position_from_yields_List}
 use Rattle.rules.specs.Beyond.{first_unfit}
-use Rattle.record.proofs.first_unfit.Goals.{After-load_fits}
+use Rattle.record.proofs.Places.{number_at, unfit, unfit_at}
+use Rattle.record.proofs.first_unfit.Goals.{After-position}
 use Rattle.record.proofs.first_unfit.Goals as goal
 
-pub loop-i-init : goal.loop-i-init
-loop-i-init c = (omega arith, refl)
+at : (c : After-position) → first_unfit c.args.wall 1 c.args.loads ≡ number_at c.position.result
+at c =
+    let wall = c.args.wall in
+    let loads = c.args.loads in
+    unfit_at wall 0 loads ∙ sym (ap number_at
+    (position_from_yields_List (unfit wall) _ _ c.position.result c.position.ensures.ran (YieldsList-from_slice loads cc) (λ x b q k. search (rules, tests))
+    ∙ position_from-zero (unfit wall) loads))
 
--- the load is judged, and then those behind it
-next : (c : After-load_fits) → let d = c.before.before.before in let i = d.loop-i.i in let start = d.args in
-    first_unfit start.wall 1 start.loads ≡ cond c.load_fits.result (first_unfit start.wall (suc (suc i)) (drop (suc i) start.loads)) (suc i)
-unfolding first_unfit
-next c =
-    let d = c.before.before.before in
-    let full = d.well_formed.1.0.1.0.1 in
-    d.loop-i.invariant.1 ∙ rw (drop-cons d.args.loads d.loop-i.i [] (omega arith), ← c.load_fits.ensures)
-
-pub returns-then-not-load_fits : goal.returns-then-not-load_fits
-returns-then-not-load_fits c = let first = rw (not-true c.load_fits.result c.if-not-load_fits.true-raw) at (next c.before) in omega arith
-
-pub loop-i-preserved : goal.loop-i-preserved
-loop-i-preserved c = (omega arith, rw add-one (rw (not-false c.load_fits.result c.if-not-load_fits.false-raw) at (next c.before)))
+pub returns-in_err-place : goal.returns-in_err-place
+returns-in_err-place c = let h = at (goal.at.returns-in_err-place c).After-position in rw (h, c.in_err-place.was) c.from_residual.ensures
 
 pub returns : goal.returns
-unfolding first_unfit
-returns c =
-    let start = c.before.before in
-    let full = start.well_formed.1.0.1.0.1 in
-    let past : length start.args.loads ≤ c.loop-i.i = omega arith in
-    sym (c.loop-i.invariant.1 ∙ rw drop_of_length-le)
+returns c = let h = at (goal.at.returns c).After-position in rw (h, c.in_ok-place.was, add-one)

@@ -1,29 +1,19 @@
 -- `sheet::calculate` meets its contract.
-use mathlib.Core.Path.{◌≡◌}
-use mathlib.Core.Bool.{true}
-use Rattle.rules.specs.Answered.{accepted}
-use Rattle.sheet.proofs.Outcomes.{refused, passed, job_refused, too_short, all_worked}
-use Rattle.sheet.proofs.calculate.Goals.{Else-not-is_worked, Else-out-walls}
+use borrow.Author.Rules.{rules}
+use Rattle.sheet.proofs.Outcomes.{job_refused, too_short, all_worked}
 use Rattle.sheet.proofs.calculate.Goals as goal
 
-pub returns-then-not-is_worked : goal.returns-then-not-is_worked
-returns-then-not-is_worked c =
-    let found = c.first_refusal-first in
-    rw found.ensures (job_refused _ _ (refused found.ensures c.is_worked.ensures c.if-not-is_worked.true-raw))
+pub returns-in_err-accepted : goal.returns-in_err-accepted
+returns-in_err-accepted c = job_refused _ _ c.in_err-accepted.ensures (search rules)
 
--- the job has passed
-worked : (c : Else-not-is_worked) → accepted c.args.job.now ≡ true
-worked c = passed c.first_refusal-first.ensures c.is_worked.ensures c.if-not-is_worked.false-raw
-
-pub returns-then-out-walls : goal.returns-then-out-walls
-returns-then-out-walls c = too_short _ _ (worked (goal.at.returns-then-out-walls c).Else-not-is_worked) (rw (← c.wall_count-walls.ensures) c.if-out-walls.true)
+pub returns-then-out-accepted : goal.returns-then-out-accepted
+returns-then-out-accepted c =
+    let job = c.in_ok-accepted.accepted in
+    let same = c.in_ok-accepted.ensures in
+    too_short _ _ (rw same at job.accepted) (rw (job.counted, same) at c.if-out-accepted.true)
 
 pub returns : goal.returns
 returns c =
-    let room = (goal.at.returns c).Else-out-walls in
-    all_worked _ _ (worked (goal.at.returns c).Else-not-is_worked) (rw (← room.wall_count-walls.ensures) room.if-out-walls.false) c.put_lines.ensures
-
-pub put_lines-requires : goal.put_lines-requires
-put_lines-requires c =
-    let room = (goal.at.put_lines-requires c).Else-out-walls in
-    (rw (worked (goal.at.put_lines-requires c).Else-not-is_worked) tt, rw (← room.wall_count-walls.ensures) room.if-out-walls.false)
+    let job = c.in_ok-accepted.accepted in
+    let same = c.in_ok-accepted.ensures in
+    all_worked _ _ (rw same at job.accepted) (rw (job.counted, same) at c.if-out-accepted.false) (rw (c.placed.ensures.0, same) at c.put_lines.ensures)

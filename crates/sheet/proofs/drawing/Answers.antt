@@ -1,50 +1,49 @@
 -- `sheet::drawing` meets its contract: each answer follows from the tests that led to it.
-use mathlib.Core.Path.{◌≡◌, sym, ap, ◌∙◌}
+use mathlib.Core.Path.{◌≡◌, sym, ◌∙◌}
 use mathlib.Core.Bool.{true, and-false}
-use Prim.Native.Nat.{suc, ◌-◌, ◌<◌}
+use Prim.Native.Nat.{ℕ, suc, ◌<◌}
 use native.Mathlib.Omega.{arith}
 use borrow.Author.Tests.{lt-leb}
-use lib.Dec.{T}
-use Rattle.rules.specs.JobFile.{wall_count}
-use Rattle.rules.specs.Answered.{accepted}
-use Rattle.rules.specs.Drawing.{drawing_for}
+use borrow.Author.Rules.{rules}
+use Rattle.std.specs.Prelude.{Result, Err}
+use Rattle.rules.specs.declared.Refusal.{Refusal}
+use Rattle.rules.specs.declared.Refusal.TheVariants.{NoSuchWall}
+use Rattle.rules.specs.declared.Drawn.{Drawn}
+use Rattle.rules.specs.JobFile.{File, wall_count}
+use Rattle.rules.specs.Answered.{first_refusal, accepted}
+use Rattle.rules.specs.Drawing.{Draws}
 use Rattle.rules.proofs.AcceptedFile.{walls_length}
 use Rattle.rules.proofs.Drawings.{refused_drawing, no_such_wall, wall_drawn}
-use Rattle.sheet.proofs.Outcomes.{refused, passed}
-use Rattle.sheet.proofs.drawing.Goals.{Else-not-is_worked, Else-walls-wall}
 use Rattle.sheet.proofs.drawing.Goals as goal
 
-pub returns-then-not-is_worked : goal.returns-then-not-is_worked
-returns-then-not-is_worked c =
-    let found = c.first_refusal-answer in
-    let no = refused found.ensures c.is_worked.ensures c.if-not-is_worked.true-raw in
-    record { answered = rw (c.undrawn.ensures, found.ensures) (sym (refused_drawing _ _ no)) }
+refused : {file : File} {n : ℕ} {refusal : Refusal} {answer : Result Drawn Refusal} → first_refusal file ≡ Err refusal → answer ≡ Err refusal → Draws file n answer
+refused first is = record { answered = is ∙ sym (refused_drawing _ _ first) }
 
-worked : (c : Else-not-is_worked) → accepted c.args.job.now ≡ true
-worked c = passed c.first_refusal-answer.ensures c.is_worked.ensures c.if-not-is_worked.false-raw
+pub returns-in_err-accepted : goal.returns-in_err-accepted
+returns-in_err-accepted c = refused c.in_err-accepted.ensures (search rules)
 
-pub returns-then-wall-lt1 : goal.returns-then-wall-lt1
-returns-then-wall-lt1 c =
-    let none = lt-leb 1 _ c.if-wall-lt1.true in
-    record { answered = rw c.undrawn-then-wall-lt1.ensures (sym (no_such_wall _ _ (worked (goal.at.returns-then-wall-lt1 c).Else-not-is_worked) (rw none))) }
+pub returns-in-Some : goal.returns-in-Some
+returns-in-Some c =
+    let job = c.in_ok-accepted.accepted in
+    let number : suc c.in-Some.i ≡ c.args.wall = omega (arith, c.in-Some.ensures) in
+    record { answered = rw (c.drawn.ensures, c.placed.ensures.0) (sym (wall_drawn _ (rw job.accepted tt) _ (omega (arith, job.counted, c.if-i-accepted.true))) ∙ rw (number, c.in_ok-accepted.ensures)) }
 
-pub returns-then-walls-wall : goal.returns-then-walls-wall
-returns-then-walls-wall c =
-    let asked = c.args in
-    let none = lt-leb asked.wall (wall_count asked.job.now) (omega (arith, c.if-walls-wall.true, c.wall_count-walls.ensures)) in
-    record { answered = rw c.undrawn-then-walls-wall.ensures (sym (no_such_wall _ _ (worked (goal.at.returns-then-walls-wall c).Else-not-is_worked) (rw (walls_length, none, and-false)))) }
+-- there is none before the first wall, and none past the last
+module _ {file : File} (good : accepted file ≡ true) (n : ℕ) where
+  pub before_first : n < 1 → Draws file n (Err (NoSuchWall n))
+  before_first h = record { answered = sym (no_such_wall file n good (rw (lt-leb 1 n h))) }
 
--- past the other two, the wall is there
-there : (c : Else-walls-wall) → let asked = c.args in T (accepted asked.job.now) × (asked.wall - 1 < wall_count asked.job.now)
-there c =
-    (rw (passed c.first_refusal-answer.ensures c.is_worked.ensures c.if-not-is_worked.false-raw) tt, omega (arith, c.if-wall-lt1.false, c.if-walls-wall.false, c.wall_count-walls.ensures))
+  pub past_last : wall_count file < n → Draws file n (Err (NoSuchWall n))
+  past_last h = record { answered = sym (no_such_wall file n good (rw (walls_length, lt-leb n (wall_count file) h, and-false))) }
 
-pub returns : goal.returns
-returns c =
-    let its = there (goal.at.returns c).Else-walls-wall in
-    let wall = c.args.wall in
-    let number : suc (wall - 1) ≡ wall = omega (arith, c.if-wall-lt1.false) in
-    record { answered = rw c.drawn_at.ensures (sym (wall_drawn _ its.0 _ its.1) ∙ ap (drawing_for _) number) }
+pub returns-in_default : goal.returns-in_default
+returns-in_default c =
+    let job = c.in_ok-accepted.accepted in
+    let same = c.in_ok-accepted.ensures in
+    let counted = rw same at job.counted in
+    past_last (rw same at job.accepted) c.args.wall (omega (arith, counted, c.in-Some.ensures, c.if-i-accepted.false))
 
-pub drawn_at-requires : goal.drawn_at-requires
-drawn_at-requires c = there (goal.at.drawn_at-requires c).Else-walls-wall
+pub returns-in_default-2 : goal.returns-in_default-2
+returns-in_default-2 c =
+    let job = c.in_ok-accepted.accepted in
+    before_first (rw c.in_ok-accepted.ensures at job.accepted) c.args.wall (omega (arith, c.in_default.ensures))

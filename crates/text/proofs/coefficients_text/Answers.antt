@@ -1,17 +1,23 @@
 -- `text::coefficients_text` meets its contract.
-use borrow.Author.Tests.{not-true, not-false}
+use borrow.Author.Rules.{rules}
+use Rattle.rules.specs.Beyond.{line_room}
 use Rattle.rules.specs.Coefficients.{coefficients_text}
 use Rattle.rules.proofs.Fitting.{put_nothing, put_fitting}
+use Rattle.text.specs.Placed.{Adds}
+use Rattle.text.proofs.Placing.{finished}
+use Rattle.text.proofs.coefficients_text.Goals.{in-Some, in-None}
 use Rattle.text.proofs.coefficients_text.Goals as goal
 
 pub returns-then-out-lt-LINE_ROOM : goal.returns-then-out-lt-LINE_ROOM
-unfolding coefficients_text
 returns-then-out-lt-LINE_ROOM c = put_nothing _ _ c.if-out-lt-LINE_ROOM.true
-
-pub returns-then-not-soil : goal.returns-then-not-soil
-unfolding coefficients_text
-returns-then-not-soil c = rw (not-true _ c.if-not-soil.true) (put_fitting _ _ c.if-out-lt-LINE_ROOM.false c.put_refused.ensures)
 
 pub returns : goal.returns
 unfolding coefficients_text
-returns c = rw (not-false _ c.if-not-soil.false) (put_fitting _ _ c.if-out-lt-LINE_ROOM.false c.put_named.ensures)
+returns c =
+    let put : Adds line_room (coefficients_text c.args.soil) c.new-line.result c.match-soil.line =
+    elim c.match-soil.branch [
+      | in-Some w ↦ rw (w.line-is, w.in-Some.is) w.put_named.ensures
+      | in-None w ↦ rw (w.line-is, w.in-None.is) w.put_refused.ensures
+    ] in
+    let room = c.if-out-lt-LINE_ROOM.false in
+    put_fitting _ _ room (finished put c.new-line.ensures.unused c.new-line.ensures.as_it_was (search rules) room)

@@ -1,7 +1,6 @@
 -- `wall::worked` meets its contract.
-use Rattle.wall.specs.Working.{worked_over}
+use Rattle.rules.proofs.Accepted.{wall_within}
 use Rattle.wall.proofs.worked.Goals as goal
 
-pub returns : goal.returns
-unfolding worked_over
-returns c = rw (c.heel_over.ensures, c.stem_under.ensures, c.toe_over.ensures)
+pub invariant_of-fitting : goal.invariant_of-fitting
+invariant_of-fitting c = record { fits = c.requires.0; within = wall_within _ c.requires.0 }

@@ -1,10 +1,7 @@
 -- `whole::near_root` meets its contract: the line is a guess within 2^28 + 1, and three steps make of it one within 1.
 use native.Mathlib.Omega.{arith}
-use Rattle.whole.proofs.Root.{first, second, third}
+use Rattle.whole.proofs.Root.{second, third}
 use Rattle.whole.proofs.near_root.Goals as goal
-
-pub nearer_root-twice-requires : goal.nearer_root-twice-requires
-nearer_root-twice-requires c = let g = first c.args.n (omega arith) (omega arith) in rw c.nearer_root-once.ensures (g.long, g.short)
 
 pub nearer_root-requires : goal.nearer_root-requires
 nearer_root-requires c =

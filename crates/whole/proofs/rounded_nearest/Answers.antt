@@ -2,17 +2,11 @@
 -- Assumes nothing.
 use mathlib.Core.Path.{◌≡◌}
 use native.Mathlib.Omega.{arith}
-use Rattle.whole.proofs.Rounded.{parts, nearest_by_zero, nearest_over, nearest_under}
+use Rattle.whole.proofs.Rounded.{nearest_by_zero, nearest_over, nearest_under}
 use Rattle.whole.proofs.rounded_nearest.Goals as goal
 
 pub returns-then-b-eq0 : goal.returns-then-b-eq0
 returns-then-b-eq0 c = let e : c.args.b ≡ 0 = omega arith in rw (e, nearest_by_zero)
-
-pub overflow_sub-b : goal.overflow_sub-b
-overflow_sub-b c = let p = parts c.args.a {b = c.args.b} (omega arith) in omega arith
-
-pub overflow_add-result : goal.overflow_add-result
-overflow_add-result c = let p = parts c.args.a {b = c.args.b} (omega arith) in record { fits = omega arith }
 
 pub returns-then-rest-b : goal.returns-then-rest-b
 returns-then-rest-b c = nearest_over c.args.a (omega arith) (omega arith)

@@ -1,18 +1,15 @@
--- `whole::rounded_up` meets its contract: the quotient and the rest say which case of the law holds.
+-- `whole::rounded_up` meets its contract: what the method of std gives is the one number that is enough, where one less would not be.
 -- Assumes nothing.
-use mathlib.Core.Path.{◌≡◌}
-use native.Mathlib.Omega.{arith}
-use Rattle.whole.proofs.Rounded.{parts, up_by_zero, up_even, up_over}
+use Rattle.std.proofs.Common.{◌≡◌, arith}
+use Rattle.std.proofs.lemmas.Grind.{div_ceil_times}
+use Rattle.whole.proofs.Rounded.{up_by_zero, up_only}
 use Rattle.whole.proofs.rounded_up.Goals as goal
-
-pub overflow_add-result : goal.overflow_add-result
-overflow_add-result c = let p = parts c.args.a {b = c.args.b} (omega arith) in record { fits = omega arith }
 
 pub returns-then-b-eq0 : goal.returns-then-b-eq0
 returns-then-b-eq0 c = let e : c.args.b ≡ 0 = omega arith in rw (e, up_by_zero)
 
-pub returns-then-a-b-eq0 : goal.returns-then-a-b-eq0
-returns-then-a-b-eq0 c = up_even c.args.a (omega arith) (omega arith)
-
-pub returns-else-a-b-eq0 : goal.returns-else-a-b-eq0
-returns-else-a-b-eq0 c = up_over c.args.a (omega arith) (omega arith)
+pub returns-else-b-eq0 : goal.returns-else-b-eq0
+returns-else-b-eq0 c =
+    let given = c.args in
+    let least = div_ceil_times given.a given.b (omega arith) in
+    omega (arith, up_only given.a (omega arith) least.0 least.1)

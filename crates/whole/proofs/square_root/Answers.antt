@@ -5,7 +5,7 @@ use Prim.Native.Nat.{ℕ, ◌+◌, ◌-◌, ◌*◌, ◌/◌, ◌%◌, ◌^◌, 
 use native.Mathlib.Nat.{mod-eq_of_lt, div-lt_iff_lt-mul, le-div_iff_mul-le}
 use native.Mathlib.Omega.{arith}
 use lib.Pow.{pow_pos, pow-add}
-use Rattle.whole.proofs.Root.{Within, pairs, few, full, moved_back, not_zero, settled, settled_down}
+use Rattle.whole.proofs.Root.{Within, pairs, full, moved_back, not_zero, settled, settled_down}
 use Rattle.whole.proofs.square_root.Goals as goal
 
 -- n moved up, as the machine does it: no bit is lost
@@ -47,18 +47,3 @@ returns-else-n-guess c =
     let some : 0 < n = omega arith in
     let w = back n some (omega arith) c.near_root.result c.near_root.ensures in
     settled w ((le-div_iff_mul-le (not_zero some w)).0 (omega arith))
-
-pub overflow_mul-pairs : goal.overflow_mul-pairs
-overflow_mul-pairs c = omega (arith, few c.args.n (omega arith) (omega arith))
-
-pub overflow_cast-pairs : goal.overflow_cast-pairs
-overflow_cast-pairs c = omega (arith, few c.args.n (omega arith) (omega arith))
-
-pub overflow_shl-n : goal.overflow_shl-n
-overflow_shl-n c = omega (arith, few c.args.n (omega arith) (omega arith))
-
-pub overflow_cast-guess : goal.overflow_cast-guess
-overflow_cast-guess c = omega (arith, few c.args.n (omega arith) (omega arith))
-
-pub overflow_shr-guess : goal.overflow_shr-guess
-overflow_shr-guess c = omega (arith, few c.args.n (omega arith) (omega arith))

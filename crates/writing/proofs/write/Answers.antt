@@ -1,37 +1,36 @@
 -- `writing::write` meets its contract.
-use mathlib.Core.Path.{◌≡◌, sym, ◌∙◌}
-use mathlib.Core.Bool.{true}
-use Prim.Native.Nat.{◌≤◌}
-use borrow.Author.Tests.{not-true, not-false}
-use lib.Dec.{T}
+use Rattle.std.proofs.Common.{rules}
+use mathlib.Core.Path.{◌≡◌, refl}
+use mathlib.Core.List.{List}
+use mathlib.Core.Bool.{false}
+use Prim.Native.Nat.{ℕ}
 use lib.ListN.{length}
-use Rattle.rules.specs.Answered.{is_worked}
-use Rattle.rules.specs.WrittenFile.{records_fit, file_of}
+use Rattle.std.specs.Prelude.{Err}
+use Rattle.rules.specs.declared.Refusal.TheVariants.{CountOutOfRange}
+use Rattle.rules.specs.WrittenFile.{records_fit, records_answer, writing_answer}
 use Rattle.rules.proofs.Rewritten.{written_fits}
+use Rattle.job.proofs.Judging.{no_refusal}
 use Rattle.writing.proofs.Writing.{not_written, all_written}
-use Rattle.writing.proofs.write.Goals.{Else-not-is_worked}
 use Rattle.writing.proofs.write.Goals as goal
 
-pub returns-then-not-is_worked : goal.returns-then-not-is_worked
-returns-then-not-is_worked c = not_written c.writing_answer-answer.ensures (sym c.is_worked.ensures ∙ not-true _ c.if-not-is_worked.true-raw)
+-- records that don't fit are refused, whatever the room
+unfit : (walls loads : List ℕ) (room : ℕ) → records_fit walls loads ≡ false → writing_answer walls loads room ≡ Err CountOutOfRange
+unfolding records_answer writing_answer
+unfit walls loads room e = rw e
 
--- nothing is refused
-worked : (c : Else-not-is_worked) → is_worked c.writing_answer-answer.result ≡ true
-worked c = sym c.is_worked.ensures ∙ not-false _ c.if-not-is_worked.false-raw
+pub returns-in_err-records : goal.returns-in_err-records
+returns-in_err-records c =
+    let its = c.in_err-records.ensures in
+    let given = c.args in
+    not_written refl (unfit given.walls.now given.loads.now (length given.out.now) its.1) (rw (← its.0) (search rules))
 
--- so the records fit, and the buffer has the room
-fits : (c : Else-not-is_worked) → let lent = c.args in
-    T (records_fit lent.walls.now lent.loads.now) × (length (file_of lent.walls.now lent.loads.now) ≤ length lent.out.now)
-fits c =
-    let lent = c.args in
-    written_fits lent.walls.now lent.loads.now (length lent.out.now) (rw (← c.writing_answer-answer.ensures, worked c) tt)
+pub returns-in_err-writing_answer : goal.returns-in_err-writing_answer
+returns-in_err-writing_answer c = let its = c.in_ok-records.ensures in rw (← its.0, ← its.1) (not_written c.writing_answer.ensures c.in_err-writing_answer.was (search rules))
 
 pub returns : goal.returns
-returns c =
-    all_written c.writing_answer-answer.ensures (worked (goal.at.returns c).Else-not-is_worked) c.file_bytes.ensures c.put_file.ensures
+returns c = let its = c.in_ok-records.ensures in rw (← its.0, ← its.1) (all_written c.writing_answer.ensures c.in_ok-writing_answer.was c.file_bytes.ensures c.put_file.ensures)
 
 pub put_file-requires : goal.put_file-requires
-put_file-requires c = fits (goal.at.put_file-requires c).Else-not-is_worked
-
-pub file_bytes-requires : goal.file_bytes-requires
-file_bytes-requires c = (fits (goal.at.file_bytes-requires c).Else-not-is_worked).0
+put_file-requires c =
+    let lent = c.in_ok-records.records in
+    (written_fits lent.walls.now lent.loads.now (length c.args.out.now) (no_refusal c.writing_answer.ensures c.in_ok-writing_answer.was)).1

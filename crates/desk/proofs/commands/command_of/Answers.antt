@@ -1,12 +1,12 @@
 -- `desk::commands::command_of` meets its contract.
-use mathlib.Core.Path.{sym, ◌∙◌}
 use Rattle.desk.specs.Commands.{command_of}
+use Rattle.desk.proofs.Words.{same_so}
 use Rattle.desk.proofs.commands.command_of.Goals as goal
 
-pub returns-then-is_same : goal.returns-then-is_same
+pub returns-then-eq : goal.returns-then-eq
 unfolding command_of
-returns-then-is_same c = rw (sym c.is_same.ensures ∙ c.if-is_same.true)
+returns-then-eq c = rw (← same_so, ← c.as_slice.ensures, ← c.if-eq.ensures)
 
-pub returns-else-is_same : goal.returns-else-is_same
+pub returns-else-eq : goal.returns-else-eq
 unfolding command_of
-returns-else-is_same c = rw (sym c.is_same.ensures ∙ c.if-is_same.false)
+returns-else-eq c = rw (← same_so, ← c.as_slice.ensures, ← c.if-eq.ensures)

@@ -2,7 +2,7 @@
 use mathlib.Core.Path.{◌≡◌, sym, ◌∙◌}
 use mathlib.Core.Bool.{Bool, true, false, not, ◌||◌}
 use Prim.Native.Nat.{ℕ, ◌≤◌}
-use borrow.Author.Tests.{not-true, not-false, ltb-false}
+use borrow.Author.Tests.{not-true, ltb-false}
 use lib.Dec.{ltb}
 use Rattle.rules.specs.JobFile.{Load, is_down, position}
 use Rattle.forces.specs.Tables.{reaches_stem, on_stem}
@@ -17,13 +17,13 @@ above top load e = ltb-false (position load) top (go (is_down load) (ltb (positi
     go true b e = cc
     go false b e = not-true b e
 
-pub returns-then-not-reaches_stem : goal.returns-then-not-reaches_stem
-unfolding on_stem
-returns-then-not-reaches_stem c = rw (sym c.reaches_stem.ensures ∙ not-true _ c.if-not-reaches_stem.true-raw)
-
 pub overflow_sub-result : goal.overflow_sub-result
-overflow_sub-result c = above _ _ (sym c.reaches_stem.ensures ∙ not-false _ c.if-not-reaches_stem.false-raw)
+overflow_sub-result c = above _ _ (sym c.reaches_stem.ensures ∙ c.if-reaches_stem.true)
 
-pub returns : goal.returns
+pub returns-then-reaches_stem : goal.returns-then-reaches_stem
 unfolding on_stem
-returns c = rw (sym c.reaches_stem.ensures ∙ not-false _ c.if-not-reaches_stem.false-raw)
+returns-then-reaches_stem c = rw (sym c.reaches_stem.ensures ∙ c.if-reaches_stem.true)
+
+pub returns-else-reaches_stem : goal.returns-else-reaches_stem
+unfolding on_stem
+returns-else-reaches_stem c = rw (sym c.reaches_stem.ensures ∙ c.if-reaches_stem.false)

@@ -1,6 +1,6 @@
--- `forces::sums::column_sum` meets its contract. The invariant: the sum is that of the rows passed.
-use mathlib.Core.Path.{◌≡◌, refl, ◌∙◌}
-use mathlib.Core.List.{List, []}
+-- `forces::sums::column_sum` meets its contract. The invariant: the sum is that of the components passed.
+use mathlib.Core.Path.{◌≡◌, refl, sym, ◌∙◌}
+use mathlib.Core.List.{List}
 use Prim.Native.Nat.{ℕ, ◌*◌, ◌≤◌}
 use native.Mathlib.Omega.{arith}
 use native.Mathlib.Numerals.{add-one}
@@ -10,10 +10,15 @@ use mir.Syntax.{w64}
 use mir.Val.{SFits, of_z, to_z}
 use mir.ValLaws.{to_z-of_z}
 use Rattle.whole.specs.Sum.{sum_to}
-use Rattle.rules.proofs.Sizes.{greatest_cell}
 use Rattle.whole.proofs.Integer.{abs_add, abs_weighted, fits_abs, back}
+use Rattle.whole.proofs.Sums.{sum_of_sum_to}
+use Rattle.rules.proofs.Sizes.{greatest_cell}
+use Rattle.forces.specs.declared.component.Column.{Column}
+use Rattle.forces.specs.declared.component.Component.{Component}
+use Rattle.forces.specs.Components as components_of
+use Rattle.forces.specs.Components.{place_of}
 use Rattle.forces.specs.Tables.{components}
-use Rattle.forces.specs.Sorts.{weighted, weighted_sum}
+use Rattle.forces.specs.Sorts.{nothing_here, weighted, weighted_sum}
 use Rattle.forces.proofs.Summed.{sum_within}
 use Rattle.forces.proofs.sums.column_sum.Invariants.{Passed}
 use Rattle.forces.proofs.sums.column_sum.Goals as goal
@@ -22,22 +27,25 @@ use Rattle.forces.proofs.sums.column_sum.Goals as goal
 abbrev read : ℤ → ℤ
 read z = to_z w64 (of_z w64 z)
 
--- the next row's weight times its cell fits, and so does that on the sum; each is read back as it is
-module _ {table : List (List ℤ)} {sorts : List ℕ} {weights : List ℤ} {column : ℕ} {sum : ℤ} {i : ℕ} (passed : Passed table sorts weights column sum i) where
+-- the next component's weight times its cell fits, and so does that on the sum; each is read back as it is
+module _ {table : List Component} {weights : List ℤ} {column : Column} {sum : ℤ} {i : ℕ} (passed : Passed table weights column sum i) where
+  abbrev next_one : Component
+  next_one = get_or table i nothing_here
+
   abbrev weight : ℤ
-  weight = get_or weights (get_or sorts i 0) (pos 0)
+  weight = get_or weights (place_of next_one.sort) (pos 0)
 
   abbrev cell : ℤ
-  cell = get_or (get_or table i []) column (pos 0)
+  cell = components_of.cell column next_one
 
   abbrev summed : ℤ
-  summed = sum_to (weighted table sorts weights column) i
+  summed = sum_to (λ i. weighted weights column (get_or table i nothing_here)) i
 
   -- none of these is great, and nor is the product
   sizes : (nat_abs weight ≤ 16) × (nat_abs cell ≤ greatest_cell) × (nat_abs (weight *ℤ cell) ≤ 16 * greatest_cell) × (nat_abs summed ≤ components * (16 * greatest_cell))
   sizes =
-      let light = passed.light.at_most (get_or sorts i 0) in
-      let small = passed.small.cells i column in
+      let light = passed.light.at_most (place_of next_one.sort) in
+      let small = (passed.small.each i).cells column in
       (light, small, abs_weighted weight cell light small, omega (arith, sum_within passed.small passed.light column i))
 
   product : read weight *ℤ read cell ≡ weight *ℤ cell
@@ -52,31 +60,33 @@ module _ {table : List (List ℤ)} {sorts : List ℕ} {weights : List ℤ} {colu
   next_fits : SFits w64 (sum +ℤ read (read weight *ℤ read cell))
   next_fits = rw next (fits_abs (summed +ℤ weight *ℤ cell) (omega (arith, abs_add summed (weight *ℤ cell), sizes)))
 
-  all_summed : components ≤ i → sum ≡ weighted_sum table sorts weights column
+  all_summed : components ≤ i → sum ≡ weighted_sum table weights column
   unfolding weighted_sum
-  all_summed h = let all : i ≡ components = omega arith in passed.same ∙ rw all
+  all_summed h =
+      let all : i ≡ components = omega arith in
+      passed.same ∙ rw (all, ← passed.all) (sym (sum_of_sum_to (weighted weights column) nothing_here table))
 
-pub loop-i-init : goal.loop-i-init
+pub loop-component-init : goal.loop-component-init
 unfolding sum_to
-loop-i-init c = record { within = omega arith; small = c.requires.1; light = c.requires.2; same = refl }
-
-pub loop-i-preserved : goal.loop-i-preserved
-unfolding sum_to
-loop-i-preserved c =
-    let passed = c.loop-i.invariant in
-    record { within = omega arith; small = passed.small; light = passed.light; same = rw add-one (to_z-of_z w64 _ (next_fits passed) ∙ next passed) }
-
-pub offset_bounds-weights-sorts : goal.offset_bounds-weights-sorts
-offset_bounds-weights-sorts c = omega (arith, c.loop-i.invariant.small.sorted c.loop-i.i)
-
-pub bounds-weights-sorts : goal.bounds-weights-sorts
-bounds-weights-sorts c = omega (arith, c.loop-i.invariant.small.sorted c.loop-i.i)
+loop-component-init c = record { all = c.told-table; within = omega arith; small = c.requires.0; light = c.requires.1; same = refl }
 
 pub overflow_mul-sum : goal.overflow_mul-sum
-overflow_mul-sum c = product_fits c.loop-i.invariant
+overflow_mul-sum c = rw (c.place.ensures, c.in_column.ensures) (product_fits c.loop-component.invariant)
 
 pub overflow_add-sum : goal.overflow_add-sum
-overflow_add-sum c = next_fits c.loop-i.invariant
+overflow_add-sum c = rw (c.place.ensures, c.in_column.ensures) (next_fits c.loop-component.invariant)
+
+pub loop-component-preserved : goal.loop-component-preserved
+unfolding sum_to
+loop-component-preserved c =
+    let passed = c.loop-component.invariant in
+    record {
+      all = passed.all;
+      within = omega arith;
+      small = passed.small;
+      light = passed.light;
+      same = rw (add-one, c.place.ensures, c.in_column.ensures) (to_z-of_z w64 _ (next_fits passed) ∙ next passed);
+    }
 
 pub returns : goal.returns
-returns c = all_summed c.loop-i.invariant (omega arith)
+returns c = all_summed c.loop-component.invariant (omega arith)

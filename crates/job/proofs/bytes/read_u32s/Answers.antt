@@ -1,20 +1,15 @@
--- `job::bytes::read_u32s` meets its contract. The invariant: the numbers passed are read.
-use mathlib.Core.Path.{refl, sym, ◌∙◌}
-use Rattle.whole.proofs.Indexed.{none_filled, one_more, all_filled}
-use Rattle.rules.proofs.Bytes.{u32s_count}
-use Rattle.job.proofs.Numbers.{number_at}
+-- `job::bytes::read_u32s` meets its contract.
+use mathlib.Core.Path.{◌≡◌}
+use Prim.Native.Nat.{◌+◌, ◌-◌, ◌*◌}
+use native.Mathlib.Omega.{arith}
+use lib.ListN.{length}
+use Rattle.job.proofs.Numbers.{same_inside}
 use Rattle.job.proofs.bytes.read_u32s.Goals as goal
 
-pub loop-k-init : goal.loop-k-init
-loop-k-init c = none_filled (u32s_count _ _ _) refl
-
-pub loop-k-preserved : goal.loop-k-preserved
-loop-k-preserved c =
-    let inside = c.loop-k-test.true in
-    one_more 0 c.loop-k.invariant inside (c.u32_at.ensures ∙ sym (number_at _ _ _ _ inside))
-
-pub returns : goal.returns
-returns c = all_filled c.loop-k.invariant c.loop-k-test.false
-
-pub shape_of-numbers : goal.shape_of-numbers
-shape_of-numbers c = c.loop-k.invariant.size
+pub returns-in-Some : goal.returns-in-Some
+returns-in-Some c =
+    let file = c.args.file.now in
+    let at = c.args.at in
+    let n = length c.args.numbers.now in
+    let count : at + 4 * n - at ≡ 4 * n = omega arith in
+    rw (c.read_inside.ensures, c.in-Some.ensures.lookup.0.2, count) (same_inside file at n)

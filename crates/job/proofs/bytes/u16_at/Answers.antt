@@ -1,14 +1,9 @@
 -- `job::bytes::u16_at` meets its contract.
-use mathlib.Core.Path.{sym, ◌∙◌}
+use native.Mathlib.Nat.{add-zero}
 use native.Mathlib.Omega.{arith}
-use Rattle.job.proofs.Numbers.{u16_last, u16_past_end}
+use Rattle.rules.specs.JobFile.{u16_at}
 use Rattle.job.proofs.bytes.u16_at.Goals as goal
 
-pub returns-then-file-at-lt2 : goal.returns-then-file-at-lt2
-returns-then-file-at-lt2 c = c.wide.ensures.0 ∙ sym (u16_last _ _ (omega arith))
-
-pub returns-then-file-at : goal.returns-then-file-at
-returns-then-file-at c = sym (u16_past_end _ _ c.if-file-at.true)
-
 pub returns : goal.returns
-returns c = c.u16_inside.ensures
+unfolding u16_at
+returns c = let first = rw add-zero at (c.bytes_at.ensures 0 (omega arith)) in omega (arith, c.from_le_bytes.ensures, first, c.bytes_at.ensures 1 (omega arith))

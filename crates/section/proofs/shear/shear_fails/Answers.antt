@@ -5,7 +5,6 @@ use Prim.Native.Nat.{ℕ, ◌*◌}
 use native.Mathlib.Omega.{arith}
 use borrow.Author.Tests.{leb-true, leb-false, le-leb, lt-leb}
 use lib.Dec.{leb}
-use Rattle.whole.proofs.Factors.{two_fit, square_fit}
 use Rattle.rules.specs.Forces.{squared}
 use Rattle.rules.specs.ToeAndStem.{shear_fails}
 use Rattle.section.proofs.shear.shear_fails.Goals as goal
@@ -24,19 +23,7 @@ unfolding shear_fails
 returns c =
     let d = c in
     let twice = 2 * d.args.v in
-    let fcu = d.args.section.concrete in
+    let fcu = d.args.small.section.concrete in
     let D = d.twice_depth-d.result in
     let third : 64 * fcu * squared (1000 * D) ≡ 100 * (fcu * squared (800 * D)) = omega arith in
     rw (← d.twice_depth-d.ensures.0, le-leb twice (5000 * D) (omega arith), and-true, third, hundredfold (squared twice) (fcu * squared (800 * D)) _ refl)
-
-pub overflow_mul-result : goal.overflow_mul-result
-overflow_mul-result c = two_fit (omega arith)
-
-pub overflow_mul-result-2 : goal.overflow_mul-result-2
-overflow_mul-result-2 c = two_fit (omega arith)
-
-pub overflow_mul-result-3 : goal.overflow_mul-result-3
-overflow_mul-result-3 c = two_fit (omega arith)
-
-pub overflow_mul-result-4 : goal.overflow_mul-result-4
-overflow_mul-result-4 c = square_fit (omega arith)

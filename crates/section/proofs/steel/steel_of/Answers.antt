@@ -9,8 +9,8 @@ use Rattle.section.proofs.steel.steel_of.Goals as goal
 -- what the rule's first test says of the section, the code has found
 tested : (c : After-needs_compression)
     → let start = c.args in
-    needs_compression start.m start.section.concrete (twice_depth start.section) ≡ c.needs_compression.result
-tested c = rw (← c.twice_depth-d.ensures.0) (sym c.needs_compression.ensures)
+    needs_compression start.m start.small.section.concrete (twice_depth start.small.section) ≡ c.needs_compression.result
+tested c = rw (← c.twice_depth.ensures.0) (sym c.needs_compression.ensures)
 
 pub returns-then-needs_compression : goal.returns-then-needs_compression
 unfolding required_area steel_fails
@@ -28,6 +28,6 @@ returns c =
       c.needed_area-needed.ensures,
       c.lever_arm.ensures.0,
       c.least_area.ensures,
-      c.twice_depth-d.ensures.0,
+      c.twice_depth.ensures.0,
       tested (goal.at.returns c).After-needs_compression ∙ c.if-needs_compression.false,
     )

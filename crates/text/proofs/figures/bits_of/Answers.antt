@@ -1,21 +1,14 @@
--- `text::figures::bits_of` meets its contract. What differs from itself is no number.
-use mathlib.Core.Path.{◌≡◌, sym, subst}
-use mathlib.Core.Bool.{not, false}
-use lib.Dec.{T}
-use lib.Ieee.{Float, nan, inf, fin, ne, is_nan, to_bits}
-use lib.Ieee.Compare.{differs_from_itself}
+-- `text::figures::bits_of` meets its contract.
+use mathlib.Core.Path.{◌≡◌, refl, sym, ◌∙◌}
+use mathlib.Core.Bool.{true}
+use lib.Ieee.{Float, nan, inf, fin, is_nan, to_bits, binary64}
 use Rattle.text.proofs.figures.bits_of.Goals as goal
 
--- and what doesn't is one
-is_number : (x : Float) → ne x x ≡ false → T (not (is_nan x))
-unfolding ne is_nan
-is_number nan same = subst T same tt
-is_number (inf s) same = tt
-is_number (fin s m e) same = tt
+no_number : (x : Float) → is_nan x ≡ true → 9221120237041090560 ≡ to_bits binary64 x
+unfolding to_bits is_nan
+no_number nan is = refl
+no_number (inf s) is = cc
+no_number (fin s m e) is = cc
 
-pub returns-then-x : goal.returns-then-x
-unfolding to_bits
-returns-then-x c = rw (differs_from_itself c.args.x (subst T (sym c.if-x.true) tt))
-
-pub float_to_bits-result : goal.float_to_bits-result
-float_to_bits-result c = is_number c.args.x c.if-x.false
+pub returns-then-is_nan : goal.returns-then-is_nan
+returns-then-is_nan c = no_number c.args.x (sym c.is_nan.ensures.value ∙ c.if-is_nan.true)

@@ -1,8 +1,0 @@
--- `wide::of` meets its contract: the other two digits are 0.
-use Rattle.std.proofs.Common.{rules}
-use Rattle.wide.specs.Value.{value}
-use Rattle.wide.proofs.of.Goals as goal
-
-pub returns : goal.returns
-unfolding value
-returns c = search rules

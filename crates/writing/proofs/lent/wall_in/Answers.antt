@@ -1,7 +1,0 @@
--- `writing::lent::wall_in` meets its contract.
-use Rattle.rules.specs.WrittenFile.{record_in}
-use Rattle.writing.proofs.lent.wall_in.Goals as goal
-
-pub returns : goal.returns
-unfolding record_in
-returns c = c.copy_from.ensures
