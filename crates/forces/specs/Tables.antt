@@ -2,7 +2,7 @@
 use Rattle.std.specs.Prelude.{ℕ, ◌+◌, ◌-◌, ◌*◌, ◌≤◌, ◌<◌, Bool, not, ◌||◌, cond, List, [], ◌∷◌, ◌++◌, map, ltb, get_or, ℤ, pos}
 use Rattle.rules.specs.JobFile.{greatest_load, Wall, Load, stem_height, base_thickness, rest_coefficient, direction, is_down, position, dead_load, live_load}
 use Rattle.rules.specs.Forces as forces
-use Rattle.rules.specs.Forces.{saturated_height, deadWeight, push_rows, load_table}
+use Rattle.rules.specs.Forces.{saturated_height, deadWeight, liveWeight, push_rows, load_table}
 use Rattle.rules.proofs.Accepted.{longest}
 use Rattle.forces.specs.declared.component.Sort.{Sort}
 use Rattle.forces.specs.declared.component.Sort.TheVariants.{DeadWeight, LiveWeight, DeadPush, LivePush}
@@ -66,7 +66,7 @@ nothing sort = record { sort = sort; row = no_row }
 
 -- where a wall's table has the weights
 abbrev pub no_weights : List forces.Component
-no_weights = nothing deadWeight ∷ nothing deadWeight ∷ nothing deadWeight ∷ nothing deadWeight ∷ nothing deadWeight ∷ nothing deadWeight ∷ []
+no_weights = nothing deadWeight ∷ nothing deadWeight ∷ nothing deadWeight ∷ nothing deadWeight ∷ nothing deadWeight ∷ nothing liveWeight ∷ []
 
 -- the rules' table of the stem, in the places that a wall's table has
 unfoldable pub stem_in_place : Wall → List Load → List forces.Component

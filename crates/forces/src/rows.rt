@@ -12,8 +12,18 @@ pub const WEIGHTS: usize = 6;
 
 pub type WeightRows = [Component; WEIGHTS];
 
-// The stem's table has pushes and loads alone.
-pub const NO_WEIGHTS: WeightRows = [Component::NOTHING; WEIGHTS];
+// The stem's table has pushes and loads alone: nothing stands in the places of its weights, of which the surcharge's is a live one.
+pub const NO_WEIGHTS: WeightRows = [
+    Component::NOTHING,
+    Component::NOTHING,
+    Component::NOTHING,
+    Component::NOTHING,
+    Component::NOTHING,
+    Component {
+        sort: Sort::LiveWeight,
+        ..Component::NOTHING
+    },
+];
 
 pub const PUSHES: usize = 5;
 

@@ -8,7 +8,7 @@ use native.Mathlib.Numerals.{add-one}
 use borrow.Author.Tests.{leb-false, eq-eqb, ne_eqb}
 use lib.Dec.{T, leb, leb→le}
 use lib.ListN.{length, get_or, set, replicate, length-append}
-use Rattle.std.specs.Prelude.{is_ok, Ok, ⊤}
+use Rattle.std.specs.Prelude.{is_ok, Ok, Err, ⊤}
 use Rattle.rules.specs.declared.Refusal.TheVariants.{NinthLoad}
 use Rattle.rules.specs.JobFile.{Wall, Entry, most_loads_on_wall, most_walls, records_from, wall_of, load_of, loads_on, load_fits}
 use Rattle.rules.specs.Answered.{Answer, refused_if, is_there, numbered, entry_fits}
@@ -56,7 +56,7 @@ by_count false m n number same = refl
 room_for : (fits : Bool) (passed number : ℕ) → T (is_ok (load_answer fits passed number)) → T fits × (passed < most_loads_on_wall)
 room_for true passed number t = (tt, go (leb most_loads_on_wall passed) refl t)
   where
-    go : (more : Bool) → leb most_loads_on_wall passed ≡ more → T (is_ok (refused_if more (NinthLoad number))) → passed < most_loads_on_wall
+    go : (more : Bool) → leb most_loads_on_wall passed ≡ more → T (is_ok (refused_if more (Err (NinthLoad number)))) → passed < most_loads_on_wall
     go true e t = absurd t
     go false e t = leb-false most_loads_on_wall passed e
 room_for false passed number t = absurd t

@@ -46,9 +46,9 @@ in_order file = rw (grouped, grouped, grouped, grouped)
 -- a header that is passed has no more walls than it may
 pub few_walls : (file : File) → T (is_ok (header_answer file)) → wall_count file ≤ most_walls
 few_walls file t =
-    let past1 = (first_worked (refused_if (ltb (length file) header_bytes) TooShort) _ t).1 in
-    let past2 = (first_worked (refused_if (not (eqb (edition file) this_edition)) WrongEdition) _ past1).1 in
-    let past3 = (first_worked (refused_if (not (counts_fit file)) CountOutOfRange) _ past2).0 in
+    let past1 = (first_worked (refused_if (ltb (length file) header_bytes) (Err TooShort)) _ t).1 in
+    let past2 = (first_worked (refused_if (not (eqb (edition file) this_edition)) (Err WrongEdition)) _ past1).1 in
+    let past3 = (first_worked (refused_if (not (counts_fit file)) (Err CountOutOfRange)) _ past2).0 in
     (walls_counted file (passes (counts_fit file) CountOutOfRange past3)).1
 
 -- ---- any records

@@ -1,5 +1,7 @@
 -- Document 01, "How strictly it is promised": no second answer fits, of each public entry.
-use Rattle.whole.proofs.OnlyOne.{Once, OnlyOne, agree, by_equation, lent, past, also}
+use mathlib.Core.List.{Mem}
+use Prim.Native.Nat.{ℕ}
+use Rattle.whole.proofs.OnlyOne.{Once, OnceLent, Free, agree, by_equation, lent, past, also}
 use denote.RattleType.{RattleType}
 use denote.Param.Laws.{Laws}
 use mir.Syntax.{Dict}
@@ -28,13 +30,29 @@ take_apart = (
   λ _ _ _ _ _ _ is its. (agree is.answered its.answered, past (also (agree is.walls_held its.walls_held) (lent (agree is.loads_held its.loads_held)))),
 )
 
--- ---- of records of any kind: no second answer fits, whatever type has them. What is asked there is Rust's own, that what the type borrows is still lent
+-- ---- what a trait asks of the types that have it asks nothing of a caller: of a file's records
+pub file_wall_count : Free contracts.records.JobFileRecords.wall_count.ended job.records.JobFileRecords.wall_count.Reads.Asked
+file_wall_count = λ _ _. tt
+
+pub file_wall_at : Free contracts.records.JobFileRecords.wall_at.ended job.records.JobFileRecords.wall_at.Reads.Asked
+file_wall_at = λ _ _. tt
+
+pub file_lengths_at : Free contracts.records.JobFileRecords.lengths_at.ended job.records.JobFileRecords.lengths_at.Reads.Asked
+file_lengths_at = λ _ _. tt
+
+pub file_entry_count : Free contracts.records.JobFileRecords.entry_count.ended job.records.JobFileRecords.entry_count.Reads.Asked
+file_entry_count = λ _ _. tt
+
+pub file_entry_at : Free contracts.records.JobFileRecords.entry_at.ended job.records.JobFileRecords.entry_at.Reads.Asked
+file_entry_at = λ _ _. tt
+
+-- ---- of records of any kind, whatever type has them: the same, where what the type borrows is still lent
 module _ (Self : RattleType) (laws : Laws Self) (records : Ghosts Self.Denot) (dict : Dict) where
-  pub check_walls : OnlyOne (contracts.ranges.Records.check_walls.ended Self records dict) (job.ranges.Records.check_walls.Reads.Learnt Self laws records dict)
-  check_walls = λ _ _ _ _ _ _. by_equation
+  pub check_walls : OnceLent (contracts.ranges.Records.check_walls.ended Self records dict) (λ κs given. (life : ℕ) → Mem life Self.lives → Mem life κs.1.0) (job.ranges.Records.check_walls.Reads.Asked Self laws records dict) (job.ranges.Records.check_walls.Reads.Learnt Self laws records dict)
+  check_walls = (λ _ _ still. still, λ _ _ _ _ _ _. by_equation)
 
-  pub entry_fits : OnlyOne (contracts.ranges.Records.entry_fits.ended Self records dict) (job.ranges.Records.entry_fits.Reads.Learnt Self laws records dict)
-  entry_fits = λ _ _ _ _ _ _. by_equation
+  pub entry_fits : OnceLent (contracts.ranges.Records.entry_fits.ended Self records dict) (λ κs given. (life : ℕ) → Mem life Self.lives → Mem life κs.1.0) (job.ranges.Records.entry_fits.Reads.Asked Self laws records dict) (job.ranges.Records.entry_fits.Reads.Learnt Self laws records dict)
+  entry_fits = (λ _ _ still. still, λ _ _ _ _ _ _. by_equation)
 
-  pub check_loads : OnlyOne (contracts.ranges.Records.check_loads.ended Self records dict) (job.ranges.Records.check_loads.Reads.Learnt Self laws records dict)
-  check_loads = λ _ _ _ _ _ _. by_equation
+  pub check_loads : OnceLent (contracts.ranges.Records.check_loads.ended Self records dict) (λ κs given. (life : ℕ) → Mem life Self.lives → Mem life κs.1.0) (job.ranges.Records.check_loads.Reads.Asked Self laws records dict) (job.ranges.Records.check_loads.Reads.Learnt Self laws records dict)
+  check_loads = (λ _ _ still. still, λ _ _ _ _ _ _. by_equation)

@@ -64,5 +64,5 @@ pub fn taking_answer(file: &[u8], walls: usize, loads: usize) -> Answer
 {
     crate::first_refusal(file)?;
     let is_short = (walls < header::wall_numbers(file)) | (loads < header::load_numbers(file));
-    reply::refused_if(is_short, Refusal::BufferTooShort)
+    reply::refused_if(is_short, Err(Refusal::BufferTooShort))
 }

@@ -50,7 +50,7 @@ figure_room = 5
 
 -- what is answered where room for so many figures is lent: the refusals of the file, then 18, and 8 last
 unfoldable pub drawing_answer : File → ℕ → ℕ → Answer
-drawing_answer file n room = answer_to_drawing file n or_else refused_if (ltb room figure_room) BufferTooShort
+drawing_answer file n room = answer_to_drawing file n or_else refused_if (ltb room figure_room) (Err BufferTooShort)
 
 -- the number of the shape that is drawn; of a refusal 0
 unfoldable pub shape_drawn : File → ℕ → ℕ → ℕ

@@ -1,9 +1,9 @@
-// Document 01, "What is answered": what an answer says, its number and its place; and a refusal where a test says so.
+// Document 01, "What is answered": what an answer says, its number and its place; and refusals in the order of their tests.
 #![tactic(auto)]
 
-ghost use Rattle.std.specs.Prelude.{◌≡◌, Err};
+ghost use Rattle.std.specs.Prelude.{◌≡◌, Err, is_ok};
 ghost use Rattle.rules.specs.declared.Refusal.TheVariants.{WallOutOfRange};
-ghost use Rattle.rules.specs.Answered.{number, place, refused_if};
+ghost use Rattle.rules.specs.Answered.{number, place, refused_if, ◌or_else◌};
 
 use rules::{Answer, Refusal};
 
@@ -54,9 +54,23 @@ pub fn place_of(answer: Answer) -> u32
     }
 }
 
+// Is it no refusal?
+pub fn is_worked(answer: Answer) -> bool
+    ensures { result ≡ is_ok answer }
+{
+    answer.is_ok()
+}
+
 // A refusal, where the test says so.
-pub fn refused_if(test: bool, refusal: Refusal) -> Answer
+pub fn refused_if(test: bool, refusal: Answer) -> Answer
     ensures { result ≡ refused_if test refusal }
 {
-    if test { Err(refusal) } else { Ok(()) }
+    if test { refusal } else { Ok(()) }
+}
+
+// The first of two refusals.
+pub fn or_else(first: Answer, second: Answer) -> Answer
+    ensures { result ≡ (first or_else second) }
+{
+    first.and(second)
 }

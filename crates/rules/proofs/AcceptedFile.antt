@@ -1,6 +1,6 @@
 -- What it tells of a whole job file that it is accepted: its header, its walls and its loads have passed every test. A law for each of them.
 use Rattle.rules.specs.declared.Refusal.{Refusal}
-use Rattle.std.specs.Prelude.{is_ok, Option, None, Some, is_none}
+use Rattle.std.specs.Prelude.{is_ok, Err, Option, None, Some, is_none}
 use mathlib.Core.Path.{◌≡◌, refl, sym, ap, ◌∙◌}
 use mathlib.Core.Bool.{Bool, true, false, not, cond, and-eq-true_iff}
 use mathlib.Core.List.{List, [], ◌∷◌, ◌++◌, append-nil}
@@ -78,18 +78,18 @@ first_worked a b t = go (is_ok a) refl t
     go false e t = absurd (rw e at t)
 
 -- where a refusal did not come, its test does not hold
-pub not_refused : (test : Bool) (refusal : Refusal) → T (is_ok (refused_if test refusal)) → T (not test)
+pub not_refused : (test : Bool) (refusal : Refusal) → T (is_ok (refused_if test (Err refusal))) → T (not test)
 not_refused true refusal t = absurd t
 not_refused false refusal t = tt
 
 -- and where it would come unless a test holds, that test does
-pub passes : (test : Bool) (refusal : Refusal) → T (is_ok (refused_if (not test) refusal)) → T test
+pub passes : (test : Bool) (refusal : Refusal) → T (is_ok (refused_if (not test) (Err refusal))) → T test
 passes true refusal t = tt
 passes false refusal t = absurd t
 
 -- so with other refusals behind it: the test holds, and there are none of those
-step : (test : Bool) (refusal : Refusal) (rest : Answer) → T (is_ok (refused_if (not test) refusal or_else rest)) → T test × T (is_ok rest)
-step test refusal rest t = let h = first_worked (refused_if (not test) refusal) rest t in (passes test refusal h.0, h.1)
+step : (test : Bool) (refusal : Refusal) (rest : Answer) → T (is_ok (refused_if (not test) (Err refusal) or_else rest)) → T test × T (is_ok rest)
+step test refusal rest t = let h = first_worked (refused_if (not test) (Err refusal)) rest t in (passes test refusal h.0, h.1)
 
 -- what the tests from 2 on leave; test 1 asks for less than that of the length
 record Passed (file : File) : Type 0 where
@@ -103,7 +103,7 @@ record Passed (file : File) : Type 0 where
 passed : (file : File) → T (accepted file) → Passed file
 unfolding first_refusal
 passed file t =
-    let past1 = (first_worked (refused_if (ltb (length file) header_bytes) TooShort) _ t).1 in
+    let past1 = (first_worked (refused_if (ltb (length file) header_bytes) (Err TooShort)) _ t).1 in
     let past2 = step (eqb (edition file) this_edition) WrongEdition _ past1 in
     let past3 = step (counts_fit file) CountOutOfRange _ past2.1 in
     let past4 = step (offsets_fit file) WrongOffset _ past3.1 in
@@ -182,7 +182,7 @@ pub past_load : (there : List Wall) (before : List Entry) (n : ℕ) (e : Entry) 
 unfolding first_bad_load
 past_load there before n e es t =
     let rest = first_bad_load there (before ++ e ∷ []) (suc n) es in
-    let more = refused_if (is_one_more before e) (NinthLoad n) in
+    let more = refused_if (is_one_more before e) (Err (NinthLoad n)) in
     let h = step (entry_fits there e) (LoadOutOfRange n) (more or_else rest) t in
     let k = first_worked more rest h.1 in
     (h.0, not_refused (is_one_more before e) (NinthLoad n) k.0, k.1)

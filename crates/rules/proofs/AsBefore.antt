@@ -93,7 +93,7 @@ pub record Alike (then : Told) (answer : Answer) : Type 0 where
   pub is : then ≡ told_as_before (told answer)
 
 -- the same refusal, by the same test
-same : (test : Bool) (refusal : Refusal) → Alike (told_if test (told_as_before (told (Err refusal))).number (told_as_before (told (Err refusal))).place) (refused_if test refusal)
+same : (test : Bool) (refusal : Refusal) → Alike (told_if test (told_as_before (told (Err refusal))).number (told_as_before (told (Err refusal))).place) (refused_if test (Err refusal))
 same true refusal = record { is = refl }
 same false refusal = record { is = refl }
 

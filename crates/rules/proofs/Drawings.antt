@@ -156,7 +156,7 @@ drawn_numbers wall loads d f =
 drawable : (file : File) (n : ℕ) → T (is_ok (answer_to_drawing file n)) → T (accepted file) × T (is_there n (walls file))
 unfolding answer_to_drawing
 drawable file n t =
-    let h = first_worked (first_refusal file) (refused_if (not (is_there n (walls file))) (NoSuchWall n)) t in
+    let h = first_worked (first_refusal file) (refused_if (not (is_there n (walls file))) (Err (NoSuchWall n))) t in
     (h.0, passes (is_there n (walls file)) (NoSuchWall n) h.1)
 
 -- whatever is asked for, no figure that is answered is a NaN

@@ -53,7 +53,7 @@ module _ (wall : Wall) where
       rw (lt-leb most_loads_on_wall (length (loads_on 1 before)), never_ninth (before ++ alone load ∷ []) (suc n) rest)
       (go (load_fits wall load) (first_unfit wall (suc (suc n)) rest))
     where
-      go : (fits : Bool) (next : Option ℕ) → (refused_if (not fits) (LoadOutOfRange (suc n)) or_else refused_load next) ≡ refused_load (cond fits next (Some (suc n)))
+      go : (fits : Bool) (next : Option ℕ) → (refused_if (not fits) (Err (LoadOutOfRange (suc n))) or_else refused_load next) ≡ refused_load (cond fits next (Some (suc n)))
       go true next = refl
       go false next = refl
 

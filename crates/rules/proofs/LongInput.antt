@@ -24,7 +24,7 @@ use Rattle.rules.proofs.AcceptedFile.{length_fits_lem, counts_fit_lem, walls_cou
 -- what they are answered, by whether the edition is right, whether the counts are, and whether the offsets are
 abbrev by_header : Bool → Bool → Bool → Answer
 by_header one counted placed =
-    refused_if (not one) WrongEdition or_else refused_if (not counted) CountOutOfRange or_else refused_if (not placed) WrongOffset or_else Err WrongLength
+    refused_if (not one) (Err WrongEdition) or_else refused_if (not counted) (Err CountOutOfRange) or_else refused_if (not placed) (Err WrongOffset) or_else Err WrongLength
 
 refused_by_header : (file : File) → header_bytes ≤ length file → (T (length_fits file) → ⊥)
     → first_refusal file ≡ by_header (eqb (edition file) this_edition) (counts_fit file) (offsets_fit file)

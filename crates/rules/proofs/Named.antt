@@ -100,7 +100,7 @@ module _ (there : List Wall) where
   pub silent : (answer : Answer) → T (not (eqb (number answer) 5)) → Says there answer
   silent answer other = record { named = λ e. absurd (rw e at other) }
 
-  silent_if : (test : Bool) (refusal : Refusal) → T (not (eqb (number (Err refusal)) 5)) → Says there (refused_if test refusal)
+  silent_if : (test : Bool) (refusal : Refusal) → T (not (eqb (number (Err refusal)) 5)) → Says there (refused_if test (Err refusal))
   silent_if test refusal other = case test (Err refusal) (Ok tt) (Says there) (λ t. silent (Err refusal) other) (λ t. silent (Ok tt) tt)
 
   -- and the first of two says what it says
@@ -226,7 +226,7 @@ length_tested file = (ends file, λ right. rw (eq-eqb _ _ right.1, eq-eqb _ _ ri
 -- of a file that passes 1 to 3
 module _ (file : File) (long : header_bytes ≤ length file) (one : edition file ≡ this_edition) (counts : T (counts_fit file)) where
   past_counts : first_refusal file
-      ≡ (refused_if (not (offsets_fit file)) WrongOffset or_else refused_if (not (length_fits file)) WrongLength
+      ≡ (refused_if (not (offsets_fit file)) (Err WrongOffset) or_else refused_if (not (length_fits file)) (Err WrongLength)
       or_else first_bad_wall 1 (walls file) or_else first_bad_load (walls file) [] 1 (entries file))
   unfolding first_refusal
   past_counts = rw (le-ltb (length file) header_bytes, eq-eqb (edition file) this_edition, is_true (counts_fit file))

@@ -238,7 +238,7 @@ module _ (ws ls : List ℕ) (wallNumbers : Numbers ws) (loadNumbers : Numbers ls
 -- records that aren't refused pass test 3
 pub records_fit_lem : (ws ls : List ℕ) → T (is_ok (records_answer ws ls)) → T (records_fit ws ls)
 unfolding records_answer
-records_fit_lem ws ls t = passes (records_fit ws ls) CountOutOfRange (first_worked (refused_if (not (records_fit ws ls)) CountOutOfRange) _ t).0
+records_fit_lem ws ls t = passes (records_fit ws ls) CountOutOfRange (first_worked (refused_if (not (records_fit ws ls)) (Err CountOutOfRange)) _ t).0
 
 -- where there is room, they are written, and an accepted file is taken apart
 writing_works : (ws ls : List ℕ) (room : ℕ) → T (is_ok (records_answer ws ls)) → length (file_of ws ls) ≤ room → writing_answer ws ls room ≡ Ok tt

@@ -39,8 +39,8 @@ place (Err OutputTooShort) = 0
 place (Err (NoSuchWall wall)) = wall
 
 -- a refusal, where the test says so
-abbrev pub refused_if : Bool → Refusal → Answer
-refused_if test refusal = cond test (Err refusal) (Ok tt)
+abbrev pub refused_if : Bool → Answer → Answer
+refused_if test refusal = cond test refusal (Ok tt)
 
 -- the first of two refusals
 infixr 20 ◌or_else◌
@@ -98,19 +98,19 @@ is_one_more passed entry = leb most_loads_on_wall (length (loads_on (wall_of ent
 unfoldable pub first_bad_load : List Wall → List Entry → ℕ → List Entry → Answer
 first_bad_load there passed n [] = Ok tt
 first_bad_load there passed n (entry ∷ rest) =
-    refused_if (not (entry_fits there entry)) (LoadOutOfRange n)
-    or_else refused_if (is_one_more passed entry) (NinthLoad n)
+    refused_if (not (entry_fits there entry)) (Err (LoadOutOfRange n))
+    or_else refused_if (is_one_more passed entry) (Err (NinthLoad n))
     or_else first_bad_load there (passed ++ entry ∷ []) (suc n) rest
 
 -- ---- 1 to 7, in order, with 10 behind 4
 
 unfoldable pub first_refusal : File → Answer
 first_refusal file =
-    refused_if (ltb (length file) header_bytes) TooShort
-    or_else refused_if (not (eqb (edition file) this_edition)) WrongEdition
-    or_else refused_if (not (counts_fit file)) CountOutOfRange
-    or_else refused_if (not (offsets_fit file)) WrongOffset
-    or_else refused_if (not (length_fits file)) WrongLength
+    refused_if (ltb (length file) header_bytes) (Err TooShort)
+    or_else refused_if (not (eqb (edition file) this_edition)) (Err WrongEdition)
+    or_else refused_if (not (counts_fit file)) (Err CountOutOfRange)
+    or_else refused_if (not (offsets_fit file)) (Err WrongOffset)
+    or_else refused_if (not (length_fits file)) (Err WrongLength)
     or_else first_bad_wall 1 (walls file)
     or_else first_bad_load (walls file) [] 1 (entries file)
 

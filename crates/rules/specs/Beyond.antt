@@ -1,4 +1,4 @@
--- What document 01 has no word for, and the entries answer all the same: one wall with its loads by itself, a section that can't be worked, what a refusal holds, a text in a
+-- What document 01 has no word for, and the entries answer all the same: one wall with its loads by itself, a section that can't be worked, what a refused wall is answered with, a text in a
 -- lent buffer, and the printed drawing.
 use Rattle.rules.specs.declared.Member.{Member}
 use Rattle.rules.specs.declared.Refusal.{Refusal}
@@ -39,7 +39,7 @@ first_unfit wall number (load ∷ rest) = cond (load_fits wall load) (first_unfi
 
 -- 6 and 7 of the load with a number: whether it fits, and how many were passed on its wall
 abbrev pub load_answer : Bool → ℕ → ℕ → Answer
-load_answer isFit passed number = refused_if (not isFit) (LoadOutOfRange number) or_else refused_if (leb most_loads_on_wall passed) (NinthLoad number)
+load_answer isFit passed number = refused_if (not isFit) (Err (LoadOutOfRange number)) or_else refused_if (leb most_loads_on_wall passed) (Err (NinthLoad number))
 
 -- ---- its forces, or the refusal
 

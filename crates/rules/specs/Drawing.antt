@@ -1,7 +1,7 @@
 -- Document 01, "The bearing block", its last paragraph: the service block for the drawing office, from a job file and a wall's number.
 -- A figure is a quotient in IEEE 754's binary64: `of_int` makes doubles of dividend and divisor, and `div` rounds once.
 use Rattle.rules.specs.declared.Refusal.{Refusal}
-use Rattle.std.specs.Prelude.{ℕ, ◌≡◌, not, ℤ, pos, ◌*ℤ◌, Float, Result}
+use Rattle.std.specs.Prelude.{ℕ, ◌≡◌, not, ℤ, pos, ◌*ℤ◌, Float, Result, Err}
 use Rattle.std.specs.Float.{binary64}
 use Rattle.std.specs.Float.Ieee.{of_int, div}
 use Rattle.rules.specs.declared.Refusal.TheVariants.{NoSuchWall}
@@ -50,7 +50,7 @@ shape_of b = shape_by b.kind b
 -- ---- what is answered: the refusals of the file, and then 18
 
 unfoldable pub answer_to_drawing : File → ℕ → Answer
-answer_to_drawing file n = first_refusal file or_else refused_if (not (is_there n (walls file))) (NoSuchWall n)
+answer_to_drawing file n = first_refusal file or_else refused_if (not (is_there n (walls file))) (Err (NoSuchWall n))
 
 unfoldable pub drawn : File → ℕ → Drawn
 drawn file n =

@@ -1,5 +1,5 @@
 -- Document 01, "The sheet line": the checks and their bits, a wall's nineteen numbers, the result buffer after a call, and the printed text.
-use Rattle.std.specs.Prelude.{ℕ, zero, suc, ◌+◌, ◌-◌, ◌*◌, ◌/◌, ◌%◌, max, ◌≡◌, Bool, true, false, not, ◌||◌, cond, List, [], ◌∷◌, ◌++◌, map, ltb, eqb, length, get_or, drop, ℤ, pos, negsuc, is_ok}
+use Rattle.std.specs.Prelude.{ℕ, zero, suc, ◌+◌, ◌-◌, ◌*◌, ◌/◌, ◌%◌, max, ◌≡◌, Bool, true, false, not, ◌||◌, cond, List, [], ◌∷◌, ◌++◌, map, ltb, eqb, length, get_or, drop, ℤ, pos, negsuc, is_ok, Err}
 use Prim.Native.Char.{code}
 use Prim.Native.String.{String, [] as empty, ◌∷◌ as ◌then◌}
 use Rattle.std.specs.Int.Signed.{lt_z}
@@ -121,7 +121,7 @@ joined (list ∷ rest) = list ++ joined rest
 
 -- the refusals of the file, and 8 last, where room for so many numbers is lent
 unfoldable pub answer_to : File → ℕ → Answer
-answer_to file room = first_refusal file or_else refused_if (ltb room (line_numbers * wall_count file)) BufferTooShort
+answer_to file room = first_refusal file or_else refused_if (ltb room (line_numbers * wall_count file)) (Err BufferTooShort)
 
 -- every line, and beyond them what stood there; of a refused job all that stood there
 unfoldable pub buffer_after : File → List ℤ → List ℤ

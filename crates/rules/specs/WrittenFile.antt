@@ -1,7 +1,7 @@
 -- Document 02, "#101 Write job files": the file that wall and load records make, what is answered where it is written into a lent buffer, and its counterpart: a file taken apart
 -- into its records.
 use Rattle.rules.specs.declared.Refusal.{Refusal}
-use Rattle.std.specs.Prelude.{ℕ, ◌+◌, ◌*◌, ◌/◌, ◌%◌, ◌≡◌, Bool, not, ◌&&◌, ◌||◌, cond, List, [], ◌∷◌, ◌++◌, map, leb, ltb, eqb, length, take, drop, is_ok, Result}
+use Rattle.std.specs.Prelude.{ℕ, ◌+◌, ◌*◌, ◌/◌, ◌%◌, ◌≡◌, Bool, not, ◌&&◌, ◌||◌, cond, List, [], ◌∷◌, ◌++◌, map, leb, ltb, eqb, length, take, drop, is_ok, Result, Err}
 use Rattle.rules.specs.declared.Refusal.TheVariants.{CountOutOfRange, BufferTooShort, OutputTooShort}
 use Rattle.rules.specs.declared.Taken.{Taken}
 use Rattle.rules.specs.JobFile.{File, this_edition, header_bytes, wall_fields, entry_fields, wall_bytes, entry_bytes, most_walls, most_loads, wall_count, load_count, records_from, walls, entries}
@@ -72,13 +72,13 @@ records_fit walls loads =
 -- 3, then 5, 6 and 7 as the reader has them
 unfoldable pub records_answer : List ℕ → List ℕ → Answer
 records_answer walls loads =
-    refused_if (not (records_fit walls loads)) CountOutOfRange
+    refused_if (not (records_fit walls loads)) (Err CountOutOfRange)
     or_else first_bad_wall 1 (records_in wall_fields walls)
     or_else first_bad_load (records_in wall_fields walls) [] 1 (records_in entry_fields loads)
 
 -- and 9 last, where room for so many bytes is lent
 unfoldable pub writing_answer : List ℕ → List ℕ → ℕ → Answer
-writing_answer walls loads room = records_answer walls loads or_else refused_if (ltb room (length (file_of walls loads))) OutputTooShort
+writing_answer walls loads room = records_answer walls loads or_else refused_if (ltb room (length (file_of walls loads))) (Err OutputTooShort)
 
 -- the bytes that are written: the file, and none where it is refused
 unfoldable pub bytes_written : List ℕ → List ℕ → ℕ → File
@@ -95,7 +95,7 @@ pub record Writes (walls loads before : List ℕ) (written : Result ℕ Refusal)
 unfoldable pub taking_answer : File → ℕ → ℕ → Answer
 taking_answer file wallRoom loadRoom =
     first_refusal file
-    or_else refused_if (ltb wallRoom (wall_fields * wall_count file) || ltb loadRoom (entry_fields * load_count file)) BufferTooShort
+    or_else refused_if (ltb wallRoom (wall_fields * wall_count file) || ltb loadRoom (entry_fields * load_count file)) (Err BufferTooShort)
 
 -- the numbers that are taken, of the walls and of the loads: all of them, and none where the file is refused
 unfoldable pub walls_taken : File → ℕ → ℕ → List ℕ

@@ -23,7 +23,7 @@ pub struct AcceptedJob<'a> {
 
 // The job, and where among its bytes the loads of each wall stand. They are looked for in one pass over all walls.
 #[derive(Drop)]
-pub struct PlacedJob<'a> {
+struct PlacedJob<'a> {
     job: AcceptedJob<'a>,
     places: PlaceTable,
     ghost placed: { places ≡ place_table (entries job.file.now) },
@@ -43,13 +43,40 @@ impl<'a> AcceptedJob<'a> {
 
     // The job with its loads found. It is inlined, since the table of places is many numbers to copy.
     #[inline(always)]
-    pub fn placed(&self) -> PlacedJob<'a>
+    fn placed(&self) -> PlacedJob<'a>
         ensures { (result.job.file.now ≡ self.now.file.now) × (result.job.walls ≡ self.now.walls) }
     {
         PlacedJob {
             job: *self,
             places: job::places(self.file),
         }
+    }
+
+    // What follows needs the table of places. It is made here, behind the tests, as a function clears its room for the table before it does anything else:
+    // so a refusal doesn't pay for it.
+
+    // The lines of every wall, one behind the other.
+    pub fn put_lines(&self, out: &mut [i64])
+        requires { line_numbers * self.now.walls ≤ length out.old }
+        ensures { out.new ≡ onto (joined (sheet self.now.file.now)) out.old }
+    {
+        self.placed().put_lines(out);
+    }
+
+    // The texts of every wall's line, one behind the other; and how many bytes they took.
+    pub fn put_texts(&self, out: &mut [u8]) -> usize
+        requires { sheet_room ≤ length out.old }
+        ensures { Put (printed self.now.file.now) out.old result out.new }
+    {
+        self.placed().put_texts(out)
+    }
+
+    // What is drawn of the wall at an index from 0.
+    pub fn drawn(&self, i: u32) -> Drawn
+        requires { i < self.now.walls }
+        ensures { result ≡ drawn self.now.file.now (suc i) }
+    {
+        self.placed().drawn(i)
     }
 }
 
@@ -65,7 +92,7 @@ impl PlacedJob<'_> {
     }
 
     // The lines of every wall, one behind the other.
-    pub fn put_lines(&self, out: &mut [i64])
+    fn put_lines(&self, out: &mut [i64])
         requires { line_numbers * self.now.job.walls ≤ length out.old }
         ensures { out.new ≡ onto (joined (sheet self.now.job.file.now)) out.old }
     {
@@ -76,7 +103,7 @@ impl PlacedJob<'_> {
     }
 
     // The texts of every wall's line, one behind the other; and how many bytes they took.
-    pub fn put_texts(&self, out: &mut [u8]) -> usize
+    fn put_texts(&self, out: &mut [u8]) -> usize
         requires { sheet_room ≤ length out.old }
         ensures { Put (printed self.now.job.file.now) out.old result out.new }
     {
@@ -89,7 +116,7 @@ impl PlacedJob<'_> {
     }
 
     // What is drawn of the wall at an index from 0.
-    pub fn drawn(&self, i: u32) -> Drawn
+    fn drawn(&self, i: u32) -> Drawn
         requires { i < self.now.job.walls }
         ensures { result ≡ drawn self.now.job.file.now (suc i) }
     {

@@ -28,7 +28,7 @@ pub fn calculate(job: &[u8], out: &mut [i64]) -> Answer
     if out.len() < LINE * accepted.walls as usize {
         return Err(Refusal::BufferTooShort);
     }
-    accepted.placed().put_lines(out);
+    accepted.put_lines(out);
     Ok(())
 }
 
@@ -41,7 +41,7 @@ pub fn text(job: &[u8], out: &mut [u8]) -> usize
         return 0;
     }
     match AcceptedJob::of(job) {
-        Ok(accepted) => accepted.placed().put_texts(out),
+        Ok(accepted) => accepted.put_texts(out),
         Err(refusal) => text::refusal_text(Err(refusal), out),
     }
 }
@@ -52,7 +52,7 @@ pub fn drawing(job: &[u8], wall: u32) -> Result<Drawn, Refusal>
 {
     let accepted = AcceptedJob::of(job)?;
     match wall.checked_sub(1) {
-        Some(i) if i < accepted.walls => Ok(accepted.placed().drawn(i)),
+        Some(i) if i < accepted.walls => Ok(accepted.drawn(i)),
         _ => Err(Refusal::NoSuchWall(wall)),
     }
 }

@@ -18,15 +18,17 @@ impl Line<'_> {
         self.put_byte(b'0' + (n % 10) as u8);
     }
 
-    // A signed number: a minus sign where it is below 0.
+    // A signed number: a minus sign where it is below 0. One less than its opposite always fits.
     pub fn put_signed(&mut self, z: i64)
         requires { HasRoom 20 self.old }
         ensures { Adds 20 (signed_decimal z) self.old self.new }
     {
         if z < 0 {
             self.put_byte(b'-');
+            self.put_decimal(whole::above_zero(-1 - z) + 1);
+        } else {
+            self.put_decimal(whole::above_zero(z));
         }
-        self.put_decimal(z.unsigned_abs());
     }
 
     // A space, and then a signed number.

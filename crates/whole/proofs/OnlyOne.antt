@@ -1,6 +1,8 @@
 -- No second answer fits a contract, and what is lent ends in one way; and the contract asks nothing of a caller. Nothing is said here a second time: each theorem names what
 -- the prover itself reads off a function, its signature (`ended`), its `requires` (`Reads.Asked`) and its `ensures` (`Reads.Learnt`).
---     Once ended Asked Learnt   any call may be made, and two outcomes of one call that both fit are equal
+--     Free ended Asked          any call may be made
+--     Once ended Asked Learnt   and two outcomes of one call that both fit are equal
+--     OnceLent ended own ..     the same of a function for any type, of which Rust itself asks that what the type borrows is still lent
 --     by_equation               of a function that is lent nothing to write, whose answer equals a value
 --     agree                     what equals a value is the only one that does
 --     lent, past, also          last values that differ in a parameter alone: `lent` at that parameter, and a `past` for each in front of it, or an `also` where that differs too
@@ -23,8 +25,14 @@ OnlyOne F Fits =
     (κs : Lfts F.signature.lifetimes) (given : Args F.signature κs) (one other : Res F.signature κs) (after next : Lasts F κs given) →
     Fits κs given one (at_exit F κs given after) → Fits κs given other (at_exit F κs given next) → (one ≡ other) × (after ≡ next)
 
+abbrev pub Free : (F : Ended) → Asks F → Type 0
+Free F Asked = (κs : Lfts F.signature.lifetimes) (given : Args F.signature κs) → Asked κs given
+
 abbrev pub Once : (F : Ended) → Asks F → Said F → Type 0
-Once F Asked Fits = ((κs : Lfts F.signature.lifetimes) (given : Args F.signature κs) → Asked κs given) × OnlyOne F Fits
+Once F Asked Fits = Free F Asked × OnlyOne F Fits
+
+abbrev pub OnceLent : (F : Ended) → Asks F → Asks F → Said F → Type 0
+OnceLent F Own Asked Fits = ((κs : Lfts F.signature.lifetimes) (given : Args F.signature κs) → Own κs given → Asked κs given) × OnlyOne F Fits
 
 pub agree : {A : Type 0} {value one other : A} → one ≡ value → other ≡ value → one ≡ other
 agree is its = is ∙ sym its

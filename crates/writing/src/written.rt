@@ -64,7 +64,7 @@ impl Lent<'_> {
         ensures { result ≡ writing_answer self.now.walls.now self.now.loads.now room }
     {
         self.records_answer()?;
-        reply::refused_if(self.is_short(room), Refusal::OutputTooShort)
+        reply::refused_if(self.is_short(room), Err(Refusal::OutputTooShort))
     }
 
     // The header, the walls behind it, and the loads behind these.

@@ -16,4 +16,4 @@ pub returns : goal.returns
 returns c =
     let job = c.in_ok-accepted.accepted in
     let same = c.in_ok-accepted.ensures in
-    all_worked _ _ (rw same at job.accepted) (rw (job.counted, same) at c.if-out-accepted.false) (rw (c.placed.ensures.0, same) at c.put_lines.ensures)
+    all_worked _ _ (rw same at job.accepted) (rw (job.counted, same) at c.if-out-accepted.false) (rw same at c.put_lines.ensures)

@@ -26,7 +26,7 @@ pub returns-in-Some : goal.returns-in-Some
 returns-in-Some c =
     let job = c.in_ok-accepted.accepted in
     let number : suc c.in-Some.i ≡ c.args.wall = omega (arith, c.in-Some.ensures) in
-    record { answered = rw (c.drawn.ensures, c.placed.ensures.0) (sym (wall_drawn _ (rw job.accepted tt) _ (omega (arith, job.counted, c.if-i-accepted.true))) ∙ rw (number, c.in_ok-accepted.ensures)) }
+    record { answered = rw c.drawn.ensures (sym (wall_drawn _ (rw job.accepted tt) _ (omega (arith, job.counted, c.if-i-accepted.true))) ∙ rw (number, c.in_ok-accepted.ensures)) }
 
 -- there is none before the first wall, and none past the last
 module _ {file : File} (good : accepted file ≡ true) (n : ℕ) where

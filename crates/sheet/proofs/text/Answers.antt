@@ -9,7 +9,7 @@ pub returns-then-out-lt-SHEET_ROOM : goal.returns-then-out-lt-SHEET_ROOM
 returns-then-out-lt-SHEET_ROOM c = put_nothing _ _ c.if-out-lt-SHEET_ROOM.true
 
 pub returns-in-Ok : goal.returns-in-Ok
-returns-in-Ok c = put_fitting sheet_room _ c.if-out-lt-SHEET_ROOM.false (rw (c.placed.ensures.0, c.in-Ok.ensures) at c.put_texts.ensures)
+returns-in-Ok c = put_fitting sheet_room _ c.if-out-lt-SHEET_ROOM.false (rw c.in-Ok.ensures at c.put_texts.ensures)
 
 pub returns-in-Err : goal.returns-in-Err
 unfolding printed
