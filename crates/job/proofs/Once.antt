@@ -30,7 +30,7 @@ take_apart = (
   λ _ _ _ _ _ _ is its. (agree is.answered its.answered, past (also (agree is.walls_held its.walls_held) (lent (agree is.loads_held its.loads_held)))),
 )
 
--- ---- what a trait asks of the types that have it asks nothing of a caller: of a file's records
+-- ---- the functions that the trait `Records` wants, of a file's records: no caller is asked for anything
 pub file_wall_count : Free contracts.records.JobFileRecords.wall_count.ended job.records.JobFileRecords.wall_count.Reads.Asked
 file_wall_count = λ _ _. tt
 
@@ -46,7 +46,7 @@ file_entry_count = λ _ _. tt
 pub file_entry_at : Free contracts.records.JobFileRecords.entry_at.ended job.records.JobFileRecords.entry_at.Reads.Asked
 file_entry_at = λ _ _. tt
 
--- ---- of records of any kind, whatever type has them: the same, where what the type borrows is still lent
+-- ---- of records of any kind, whatever type has them: no second answer fits, and nothing is asked but what Rust asks, that what the type borrows is still lent
 module _ (Self : RattleType) (laws : Laws Self) (records : Ghosts Self.Denot) (dict : Dict) where
   pub check_walls : OnceLent (contracts.ranges.Records.check_walls.ended Self records dict) (λ κs given. (life : ℕ) → Mem life Self.lives → Mem life κs.1.0) (job.ranges.Records.check_walls.Reads.Asked Self laws records dict) (job.ranges.Records.check_walls.Reads.Learnt Self laws records dict)
   check_walls = (λ _ _ still. still, λ _ _ _ _ _ _. by_equation)

@@ -6,7 +6,7 @@ use Rattle.writing.proofs as writing
 pub write : Once contracts.write.ended writing.write.Reads.Asked writing.write.Reads.Learnt
 write = (λ _ _. tt, λ _ _ _ _ _ _ is its. (agree is.answered its.answered, past (past (lent (agree is.holds its.holds)))))
 
--- ---- what `job` `Records` asks of the types that have it asks nothing of a caller: of lent records
+-- ---- the functions that `job`'s trait `Records` wants, of lent records: no caller is asked for anything
 pub lent_wall_count : Free contracts.lent.LentRecords.wall_count.ended writing.lent.LentRecords.wall_count.Reads.Asked
 lent_wall_count = λ _ _. tt
 
